@@ -1,0 +1,66 @@
+-- What an instruction does to the state, all of its tests passed. Document 01, "Results and flags".
+-- Assumes nothing.
+use mathlib.Core.Bool.{Bool, cond, _&&_, _||_}
+use Prim.Native.Nat.{ℕ}
+use lib.Dec.{eqb, leb}
+use Rattle.decode.specs.Code.{ADD, ADDS, AND, CALL, CMP, DIV, HALT, IN, LD, LDFLAG, MOD, MUL, OR, OUT, POP, PUSH, RET, RETI, SHRA, SHRL, SUB, XOR}
+use Rattle.word.specs.Alu.{addOf, addsOf, andOf, divOf, modOf, mulOf, orOf, shlOf, shraOf, shrlOf, subOf, xorOf}
+use Rattle.word.specs.Word.{minus, plus}
+use Rattle.word.specs.declared.alu.Alu.{Alu}
+use Rattle.machine.specs.Flag.{withFlag}
+use Rattle.machine.specs.Ports.{afterIn, afterOut, portValue}
+use Rattle.machine.specs.Register.{spOf, withReg, withSp}
+use Rattle.machine.specs.State.{withArithmetic, withCondition, withPc, withStack}
+use Rattle.machine.specs.declared.Condition.the-variants as condition
+use Rattle.machine.specs.declared.Event.{Event}
+use Rattle.machine.specs.declared.Event.the-variants as event
+use Rattle.machine.specs.declared.Operation.{Operation}
+use Rattle.machine.specs.declared.State.{State}
+
+-- the result and the flags of an instruction from ADD to SHRL
+unfoldable pub aluOf : ℕ → ℕ → ℕ → Alu
+aluOf code a b =
+    cond (eqb code ADD) (addOf a b)
+    (cond (eqb code SUB) (subOf a b)
+    (cond (eqb code CMP) (subOf a b)
+    (cond (eqb code AND) (andOf a b)
+    (cond (eqb code OR) (orOf a b)
+    (cond (eqb code XOR) (xorOf a b)
+    (cond (eqb code ADDS) (addsOf a b)
+    (cond (eqb code MUL) (mulOf a b)
+    (cond (eqb code DIV) (divOf a b)
+    (cond (eqb code MOD) (modOf a b)
+    (cond (eqb code SHRA) (shraOf a b)
+    (cond (eqb code SHRL) (shrlOf a b)
+    (shlOf a b))))))))))))
+
+abbrev pub withFlags : State → Alu → State
+withFlags st r = withArithmetic st (r .v) (r .c) (r .s) (r .z)
+
+-- "CMP keeps Rd"
+unfoldable pub afterAlu : State → ℕ → ℕ → Alu → State
+afterAlu st code rd r = cond (eqb code CMP) (withFlags st r) (withReg (withFlags st r) rd (r .value))
+
+-- The state after an instruction but for PC. "LD, ST, jumps, stack and port instructions change no arithmetic flag; RETI loads FLAG. Those
+-- listed from ADD to SHRL, and only they, set S and Z". "PUSH and CALL lower SP by 2 ...; POP, RET and RETI read and raise it." "POP SP
+-- ends with the popped value; so does number 14 if P=0 (H)." RETI's SSP "rises by 4". "HALT sets condition 1".
+unfoldable pub bodyOf : State → Operation → State
+bodyOf st op =
+    cond (eqb (op .code) LD) (withReg st (op .rd) (op .source))
+    (cond (eqb (op .code) LDFLAG) (withReg st (op .rd) (op .source))
+    (cond (eqb (op .code) CALL) (withSp st (minus (spOf st) 2))
+    (cond (eqb (op .code) IN) (withReg (afterIn st (op .port)) (op .rd) (portValue st (op .port)))
+    (cond (eqb (op .code) OUT) (afterOut st (op .port) (op .left))
+    (cond (eqb (op .code) PUSH) (withSp st (minus (spOf st) 2))
+    (cond (eqb (op .code) POP) (withReg (withSp st (plus (spOf st) 2)) (op .rd) (op .source))
+    (cond (eqb (op .code) RET) (withSp st (plus (spOf st) 2))
+    (cond (eqb (op .code) RETI) (withFlag (withStack st (plus (st .ssp) 4) (st .usp)) (op .source))
+    (cond (eqb (op .code) HALT) (withCondition st condition.Halted)
+    (cond (leb ADD (op .code) && leb (op .code) SHRL) (afterAlu st (op .code) (op .rd) (aluOf (op .code) (op .left) (op .source)))
+    st))))))))))
+
+unfoldable pub afterOperation : State → Operation → State
+afterOperation st op = bodyOf (withPc st (op .pc)) op
+
+unfoldable pub eventOf : Operation → Event
+eventOf op = cond (eqb (op .code) HALT) event.Halted (event.Executed (op .states))

@@ -1,0 +1,12 @@
+pub mod Answers
+pub mod Enter
+pub mod Execute
+pub mod Flag
+pub mod Memory
+pub mod Mmu
+pub mod Plan
+pub mod Ports
+pub mod Register
+pub mod Run
+pub mod State
+pub mod Step

@@ -1,0 +1,71 @@
+-- Ports. Document 01, "MMU": "Ports: ...". A port is the whole 16-bit address.
+-- Assumes nothing.
+use mathlib.Core.Bool.{Bool, cond, _&&_}
+use mathlib.Core.List.{List}
+use Prim.Native.Nat.{ℕ, _+_, _-_, _*_, _/_, _%_}
+use lib.Dec.{eqb, leb}
+use lib.ListN.{getD, set}
+use Rattle.word.specs.Word.{lower}
+use Rattle.machine.specs.Flag.{isSet}
+use Rattle.machine.specs.Mmu.{pageIn}
+use Rattle.machine.specs.State.{withCause, withMmu, withOutput, withTlb}
+use Rattle.machine.specs.declared.State.{State}
+
+-- "80h + 4 × k holds entry k's page, 82h + 4 × k its lower 16 bits", of k from 0 to 7
+abbrev pub isTlbPort : ℕ → Bool
+isTlbPort port = leb 0x80 port && (leb port 0x9e && eqb (port % 2) 0)
+
+abbrev pub entryAt : ℕ → ℕ
+entryAt port = (port - 0x80) / 4
+
+abbrev pub isPagePort : ℕ → Bool
+isPagePort port = eqb (port % 4) 0
+
+-- an entry as its port shows it
+abbrev pub entryShown : ℕ → ℕ → ℕ
+entryShown port entry = cond (isPagePort port) (pageIn entry) (entry % 65536)
+
+-- "bits 14, 13 stored as 0"
+abbrev pub lowerStored : ℕ → ℕ
+lowerStored v = v / 32768 * 32768 + v % 8192
+
+-- an entry after a write of v to its port: "Bytes go by the lower half"
+abbrev pub entryWritten : ℕ → ℕ → ℕ → ℕ
+entryWritten port entry v =
+    cond (isPagePort port) (lower v * 65536 + entry % 65536) (pageIn entry * 65536 + lowerStored v)
+
+-- What IN gives. "A2h: IN gives the violation address"; "A4h: IN gives the cause"; "A6h: IN gives the missed page"; "18h: IN input
+-- byte"; "Any other port, odd ones included, reads 0". Bytes have 0 in the upper half.
+unfoldable pub portIn : ℕ → ℕ → ℕ → ℕ → List ℕ → ℕ → ℕ
+portIn input violation cause missed tlb port =
+    cond (eqb port 0x18) input
+    (cond (eqb port 0xa2) violation
+    (cond (eqb port 0xa4) cause
+    (cond (eqb port 0xa6) missed
+    (cond (isTlbPort port) (entryShown port (getD tlb (entryAt port) 0))
+    0))))
+
+abbrev pub portValue : State → ℕ → ℕ
+portValue st port = portIn (st .input) (st .violation) (st .cause) (st .missed) (st .tlb) port
+
+-- the cause after IN: "A4h: IN gives the cause and clears it"
+unfoldable pub causeAfter : ℕ → ℕ → ℕ
+causeAfter cause port = cond (eqb port 0xa4) 0 cause
+
+abbrev pub afterIn : State → ℕ → State
+afterIn st port = withCause st (causeAfter (st .cause) port)
+
+-- After OUT. "18h: ... OUT lower half to output byte"; A2h: "bit 0 of OUT switches the MMU"; the TLB's ports. "OUT to A4h and A6h is
+-- dropped"; "Any other port ... drops writes".
+unfoldable pub outputAfter : ℕ → ℕ → ℕ → ℕ
+outputAfter output port v = cond (eqb port 0x18) (lower v) output
+
+unfoldable pub mmuAfter : Bool → ℕ → ℕ → Bool
+mmuAfter mmu port v = cond (eqb port 0xa2) (isSet 0 v) mmu
+
+unfoldable pub tlbAfter : List ℕ → ℕ → ℕ → List ℕ
+tlbAfter tlb port v = cond (isTlbPort port) (set tlb (entryAt port) (entryWritten port (getD tlb (entryAt port) 0) v)) tlb
+
+abbrev pub afterOut : State → ℕ → ℕ → State
+afterOut st port v =
+    withTlb (withMmu (withOutput st (outputAfter (st .output) port v)) (mmuAfter (st .mmu) port v)) (tlbAfter (st .tlb) port v)

@@ -1,0 +1,135 @@
+// The machine: its state, and what each of its parts answers.
+
+// The condition of a machine.
+pub enum Condition {
+    Running,
+    Halted,
+    Lost,
+}
+
+// The state of a machine, without its memory.
+pub struct State {
+    // G0 to G11 and FP.
+    pub regs: [u16; 13],
+    pub ssp: u16,
+    pub usp: u16,
+    pub pc: u16,
+    // FLAG: E interrupts on, P privileged, I I/O privilege, V overflow, C carry, S sign, Z zero.
+    pub e: bool,
+    pub p: bool,
+    pub i: bool,
+    pub v: bool,
+    pub c: bool,
+    pub s: bool,
+    pub z: bool,
+    // Pending lines: bit n is interrupt n.
+    pub pending: u16,
+    pub input: u8,
+    pub output: u8,
+    // MMU on.
+    pub mmu: bool,
+    pub condition: Condition,
+    // The violation address, its cause and the missed page.
+    pub violation: u16,
+    pub cause: u8,
+    pub missed: u8,
+    // TLB entries of 24 bits.
+    pub tlb: [u32; 8],
+}
+
+// Why an access is not granted.
+pub enum Fault {
+    // A word at an odd address.
+    Odd,
+    // No valid entry has the page.
+    Missing,
+    // The entry that serves lacks the right.
+    Refused,
+}
+
+// What a right is asked for.
+pub enum Right {
+    Read,
+    Write,
+    Execute,
+}
+
+// The answer to an access: the physical address, or why there is none.
+pub enum Access {
+    At(u16),
+    Fails(Fault),
+}
+
+// The data access of an instruction: a value that needs none, or the logical address of a word or a byte.
+pub enum Need {
+    Value(u16),
+    ReadWord(u16),
+    ReadByte(u16),
+    WriteWord(u16),
+    WriteByte(u16),
+}
+
+// What an instruction stores: nothing, or a word or a byte at a physical address.
+pub enum Store {
+    Nothing,
+    Word(u16, u16),
+    Byte(u16, u16),
+}
+
+// The data access done: the operand's value and what is to be stored; or why the access to a logical address is not granted.
+pub enum Transfer {
+    Done(u16, Store),
+    Fails(Fault, u16),
+}
+
+// An instruction of which every test has passed.
+pub struct Operation {
+    pub code: u8,
+    pub rd: u8,
+    // The value of Rd before the instruction.
+    pub left: u16,
+    // The operand's value: a word or a byte that was read, an immediate or a register.
+    pub source: u16,
+    // The port of IN or OUT.
+    pub port: u16,
+    // PC after the instruction.
+    pub pc: u16,
+    pub states: u16,
+    pub store: Store,
+}
+
+// What a step is going to do.
+pub enum Plan {
+    // Enter by the lowest pending line.
+    Interrupt(u8),
+    // Enter because an access to a logical address is not granted.
+    Violation(Fault, u16),
+    // Enter with this number, the second being the PC to be saved.
+    Trap(u8, u16),
+    // Carry out an instruction.
+    Perform(Operation),
+}
+
+// What a step did.
+pub enum Event {
+    // An instruction, in this many states.
+    Executed(u16),
+    // The kernel was entered: the number, and the PC and FLAG that were saved.
+    Entered(u8, u16, u16),
+    Halted,
+    Lost,
+}
+
+// The next state and what the step did.
+pub struct Stepped {
+    pub state: State,
+    pub event: Event,
+}
+
+// How a run ended.
+pub enum Ending {
+    Spent,
+    Entered(u8, u16, u16),
+    Halted,
+    Lost,
+}

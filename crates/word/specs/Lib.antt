@@ -1,0 +1,5 @@
+pub mod Alu
+pub mod Jump
+pub mod Laws
+pub mod Signed
+pub mod Word

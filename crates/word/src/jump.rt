@@ -1,0 +1,57 @@
+// Jump conditions.
+ghost use mathlib.Core.Bool.{Bool};
+ghost use mathlib.Core.Path.{_≡_};
+ghost use Rattle.word.specs.Jump as def;
+
+// What a condition says of the flags.
+pub enum Test {
+    Holds,
+    Fails,
+    Undefined,
+}
+
+fn answer(holds: bool) -> Test
+    ensures { λ r. ⌜ r ≡ def.testOf holds ⌝ }
+{
+    if holds { Test::Holds } else { Test::Fails }
+}
+
+// Conditions 0 to 3: a flag.
+fn flag_test(code: u8, v: bool, c: bool, s: bool, z: bool) -> bool
+    ensures { λ r. ⌜ r ≡ def.flagTest code v c s z ⌝ }
+{
+    match code {
+        0 => z,
+        1 => c,
+        2 => s,
+        _ => v,
+    }
+}
+
+// Conditions 4 to 7: a comparison of signed numbers.
+fn signed_test(code: u8, v: bool, c: bool, s: bool, z: bool) -> bool
+    ensures { λ r. ⌜ r ≡ def.signedTest code v c s z ⌝ }
+{
+    match code {
+        4 => !(z | (s != v)),
+        5 => s == v,
+        6 => z | (s != v),
+        _ => s != v,
+    }
+}
+
+// The condition with this number, at these flags.
+pub fn condition(code: u8, v: bool, c: bool, s: bool, z: bool) -> Test
+    ensures { λ r. ⌜ r ≡ def.conditionOf code v c s z ⌝ }
+{
+    match code {
+        12 => answer(!(z | c)),
+        13 => Test::Undefined,
+        14 => answer(z | c),
+        15 => Test::Holds,
+        0..=3 => answer(flag_test(code, v, c, s, z)),
+        4..=7 => answer(signed_test(code, v, c, s, z)),
+        8..=11 => answer(!flag_test(code - 8, v, c, s, z)),
+        _ => Test::Undefined,
+    }
+}

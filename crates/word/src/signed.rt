@@ -1,0 +1,40 @@
+// Words and four-bit fields as signed numbers.
+ghost use mathlib.Core.Path.{_≡_};
+ghost use Rattle.word.specs.Signed.{signed, signed4, word};
+
+// The signed number that has the bits of `w`.
+pub fn to_signed(w: u16) -> i16
+    ensures { λ r. ⌜ r ≡ signed w ⌝ }
+{
+    if w < 32768 {
+        w as i16
+    } else {
+        let below = 65535 - w;
+        -1 - below as i16
+    }
+}
+
+// The word that has the bits of `x`.
+pub fn to_word(x: i16) -> u16
+    ensures { λ r. ⌜ r ≡ word x ⌝ }
+{
+    if x < 0 {
+        let below = -1 - x;
+        65535 - below as u16
+    } else {
+        x as u16
+    }
+}
+
+// The lowest four bits of `field` as a signed number, -8 to 7.
+pub fn four_bits(field: u16) -> i16
+    ensures { λ r. ⌜ r ≡ signed4 field ⌝ }
+{
+    let bits = field % 16;
+    if bits < 8 {
+        bits as i16
+    } else {
+        let below = 15 - bits;
+        -1 - below as i16
+    }
+}

@@ -1,0 +1,1 @@
+// Worked examples about the definitions of `machine`: theorems, no functions.
