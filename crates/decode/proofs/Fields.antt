@@ -1,17 +1,16 @@
 -- The table's rule at each entry: one test over the 256 first bytes, and the laws that turn it into what an entry's bits say.
 -- Assumes nothing.
 use mathlib.Core.Bool.{Bool, Bool·beq, cond, false, true, _&&_, _||_}
-use mathlib.Core.Path.{_≡_, refl, sym, ap, _∙_}
-use mathlib.Core.List.{List, [], _∷_}
-use Prim.Native.Nat.{ℕ, suc, zero, _+_, _/_, _%_, _<_}
-use native.Mathlib.Omega.{arith}
+use mathlib.Core.List.{List}
+use mathlib.Core.Path.{ap, refl, sym, _∙_, _≡_}
+use Prim.Native.Nat.{suc, zero, ℕ, _%_, _+_, _/_, _<_}
 use native.Mathlib.Nat.{add-suc, add-zero, le-of-suc-le-suc, not-suc-le-zero, suc-add, zero-add}
+use native.Mathlib.Omega.{arith}
 use lib.Dec.{T, eqb, eqb→eq}
 use lib.ListN.{getD}
 use Rattle.word.specs.Word.{upper}
-use Rattle.decode.specs.Code.{ADD, ADDS, AND, CALL, CMP, DIV, HALT, IN, JUMP, LD, LDFLAG, MOD, MUL, NO, OR, OUT, POP, PUSH, RET, RETI, SHLA, SHLL, SHRA, SHRL, ST, SUB, SVC, XOR}
 use Rattle.decode.specs.Cost.{costOf, costSingle}
-use Rattle.decode.specs.Decode.{fieldsBad, firstIn, firstOf, hasSecond, rdField, rxField, shapeOf, usesRd, usesRx}
+use Rattle.decode.specs.Decode.{fieldsBad, firstIn, firstOf, hasSecond, rdField, rxField, usesRd, usesRx}
 use Rattle.decode.specs.Entry.{entriesFrom, entryOf, packed, tableOf}
 use Rattle.decode.specs.Opcode.{Opcode, eight, findModed, findSingle, known, modeIn, moded, opcodeOf, row, singles, unknown}
 use Rattle.decode.specs.declared.First.{First}

@@ -3,9 +3,9 @@
 use mathlib.Core.Bool.{cond}
 use mathlib.Core.List.{List, [], _∷_}
 use Prim.Native.Nat.{ℕ}
-use lib.Dec.{eqb, ltb, leb}
+use lib.Dec.{eqb, leb, ltb}
 use lib.ListN.{getD}
-use Rattle.decode.specs.Code.{LD, ST, ADDS, MUL, MOD, LDFLAG, SHRL, JUMP, CALL, IN, OUT, PUSH, POP, RET, RETI, SVC, HALT}
+use Rattle.decode.specs.Code.{ADDS, CALL, HALT, IN, JUMP, LD, LDFLAG, MOD, MUL, OUT, POP, PUSH, RET, RETI, SHRL, ST, SVC}
 
 -- "LD 7,7,5,7,4,4,6,6."
 abbrev pub costLd : List ℕ

@@ -1,11 +1,12 @@
 -- The decoding of an instruction word. Document 01, "Instruction words".
 -- Assumes nothing.
 use mathlib.Core.Bool.{Bool, cond, _&&_, _||_}
-use Prim.Native.Nat.{ℕ, _/_, _%_}
+use Prim.Native.Nat.{ℕ, _%_, _/_}
 use lib.Dec.{eqb, leb, ltb}
+use lib.IntN.{pos, _*ℤ_}
 use Rattle.word.specs.Signed.{signed4}
 use Rattle.word.specs.Word.{upper}
-use Rattle.decode.specs.Code.{LD, IN, JUMP, POP, SHRL}
+use Rattle.decode.specs.Code.{IN, JUMP, LD, POP, SHRL}
 use Rattle.decode.specs.Cost.{costOf}
 use Rattle.decode.specs.Opcode.{Opcode, known, opcodeOf, unknown}
 use Rattle.decode.specs.declared.First.{First}
@@ -59,13 +60,14 @@ firstIn (known code kind) w = cond (fieldsBad code kind (rdField w) (rxField w))
 unfoldable pub firstOf : ℕ → First
 firstOf w = firstIn (opcodeOf (upper w)) w
 
--- "0 direct [Dsp], 1 indexed [Dsp+Rx], 2 immediate, 3 [FP + 2 × D4], 4 register, 5 four-bit immediate, 6 [Rx], 7 byte at [Rx]"
+-- "0 direct [Dsp], 1 indexed [Dsp+Rx], 2 immediate, 3 [FP + 2 × D4], 4 register, 5 four-bit immediate, 6 [Rx], 7 byte at [Rx]".
+-- Kind 3 holds the D4 doubled.
 unfoldable pub operandOf : ℕ → ℕ → ℕ → Operand
 operandOf kind rx second =
     cond (eqb kind 0) (Direct second)
     (cond (eqb kind 1) (Indexed second rx)
     (cond (eqb kind 2) (Immediate second)
-    (cond (eqb kind 3) (Frame (signed4 rx))
+    (cond (eqb kind 3) (Frame (signed4 rx *ℤ pos 2))
     (cond (eqb kind 4) (Register rx)
     (cond (eqb kind 5) (Short (signed4 rx))
     (cond (eqb kind 6) (Indirect rx)

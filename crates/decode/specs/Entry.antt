@@ -1,8 +1,8 @@
 -- The decoding table: "an entry for each of the 256 first bytes".
 -- Assumes nothing.
-use mathlib.Core.Bool.{Bool, cond, false, true}
+use mathlib.Core.Bool.{Bool, false, true}
 use mathlib.Core.List.{List, [], _∷_}
-use Prim.Native.Nat.{ℕ, suc, zero, _+_, _*_}
+use Prim.Native.Nat.{suc, zero, ℕ, _*_, _+_}
 use Rattle.decode.specs.Cost.{costOf}
 use Rattle.decode.specs.Decode.{hasSecond, usesRd, usesRx}
 use Rattle.decode.specs.Opcode.{Opcode, known, opcodeOf, unknown}

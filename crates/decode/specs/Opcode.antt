@@ -1,10 +1,10 @@
 -- Which first bytes are instructions, and in which mode. Document 01, "Instruction words": "First byte and allowed modes".
 -- Assumes nothing.
-use mathlib.Core.Bool.{Bool, cond, false, true, _||_}
+use mathlib.Core.Bool.{cond}
 use mathlib.Core.List.{List, [], _∷_}
 use Prim.Native.Nat.{ℕ, _+_}
 use lib.Dec.{eqb}
-use Rattle.decode.specs.Code.{NO, LD, ST, ADD, SUB, CMP, AND, OR, XOR, ADDS, MUL, DIV, MOD, LDFLAG, SHLA, SHLL, SHRA, SHRL, JUMP, CALL, IN, OUT, PUSH, POP, RET, RETI, SVC, HALT}
+use Rattle.decode.specs.Code.{ADD, ADDS, AND, CALL, CMP, DIV, HALT, IN, JUMP, LD, LDFLAG, MOD, MUL, NO, OR, OUT, POP, PUSH, RET, RETI, SHLA, SHLL, SHRA, SHRL, ST, SUB, SVC, XOR}
 
 -- What a first byte is: no instruction, or one with the number `code` and an operand of the kind `kind`.
 -- Kinds 0 to 7 are the modes; kind 8 is no operand.

@@ -1,7 +1,9 @@
 // Instruction words: the decoding table, the first word, the operand.
 ghost use mathlib.Core.Path.{_≡_};
+ghost use lib.IntN.{pos, _*ℤ_};
 ghost use Rattle.decode.specs.Decode as def;
 ghost use Rattle.decode.specs.Entry.{tableOf};
+ghost use Rattle.word.specs.Signed.{signed4};
 
 mod table;
 
@@ -14,7 +16,7 @@ pub enum Operand {
     // The same at a displacement plus a register.
     Indexed(u16, u8),
     Immediate(u16),
-    // The word at FP plus twice this, -8 to 7.
+    // The word at FP plus this: twice D4, -16 to 14.
     Frame(i16),
     Register(u8),
     // A four-bit immediate, -8 to 7.
@@ -77,6 +79,13 @@ pub fn first_word(table: &[u32; 256], word: u16) -> First
     })
 }
 
+// Twice D4.
+fn frame_offset(field: u16) -> i16
+    ensures { λ r. ⌜ r ≡ signed4 field *ℤ pos 2 ⌝ }
+{
+    word::four_bits(field) * 2
+}
+
 // The operand of a kind, from the last field and the second word.
 pub fn operand_from(kind: u8, rx: u8, second: u16) -> Operand
     ensures { λ r. ⌜ r ≡ def.operandOf kind rx second ⌝ }
@@ -85,7 +94,7 @@ pub fn operand_from(kind: u8, rx: u8, second: u16) -> Operand
         0 => Operand::Direct(second),
         1 => Operand::Indexed(second, rx),
         2 => Operand::Immediate(second),
-        3 => Operand::Frame(word::four_bits(rx as u16)),
+        3 => Operand::Frame(frame_offset(rx as u16)),
         4 => Operand::Register(rx),
         5 => Operand::Short(word::four_bits(rx as u16)),
         6 => Operand::Indirect(rx),

@@ -24,6 +24,25 @@ faultNumber Odd = 11
 faultNumber Missing = 10
 faultNumber Refused = 11
 
+-- "odd word address (11, cause bit 1, ...)", "right (11, cause bit 0)": what a fault adds to the cause
+abbrev pub causeBit : Fault → ℕ
+causeBit Odd = 2
+causeBit Missing = 0
+causeBit Refused = 1
+
+-- "undefined (14), privilege (13)", "zero divisor (12)", "SVC is 15."
+abbrev pub zeroDivisor : ℕ
+zeroDivisor = 12
+
+abbrev pub notPermitted : ℕ
+notPermitted = 13
+
+abbrev pub undefinedWord : ℕ
+undefinedWord = 14
+
+abbrev pub serviceCall : ℕ
+serviceCall = 15
+
 -- "rights read 10, write 9, execute 8": the right's bit in a TLB entry
 abbrev pub rightBit : Right → ℕ
 rightBit Read = 10

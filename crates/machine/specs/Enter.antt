@@ -3,12 +3,12 @@
 -- Assumes nothing.
 use mathlib.Core.Bool.{cond, false, true}
 use mathlib.Core.List.{List}
-use Prim.Native.Nat.{ℕ, _*_, _%_}
+use Prim.Native.Nat.{ℕ, _%_, _*_}
 use lib.Dec.{eqb}
 use Rattle.word.specs.Word.{minus, plus}
 use Rattle.machine.specs.Flag.{flagOf}
 use Rattle.machine.specs.Memory.{storeWord, wordAt}
-use Rattle.machine.specs.State.{withCondition, withPc, withStack, withSystem}
+use Rattle.machine.specs.State.{withCondition, withPc, withPending, withStack, withSystem}
 use Rattle.machine.specs.declared.Condition.the-variants as condition
 use Rattle.machine.specs.declared.Event.{Event}
 use Rattle.machine.specs.declared.Event.the-variants.{Entered, Lost}
@@ -25,26 +25,23 @@ abbrev pub vectorOf : ℕ → ℕ
 vectorOf number = plus 0xffe0 (2 * number)
 
 -- memory after the pushes: PC at SSP-2, FLAG at SSP-4
-unfoldable pub pushed : State → ℕ → List ℕ → List ℕ
-pushed st saved m = storeWord (storeWord m (minus (st .ssp) 2) saved) (minus (st .ssp) 4) (flagOf st)
+unfoldable pub pushed : ℕ → ℕ → ℕ → List ℕ → List ℕ
+pushed ssp flag saved m = storeWord (storeWord m (minus ssp 2) saved) (minus ssp 4) flag
 
 -- the state in the handler, whose address is `handler`
 abbrev pub inKernel : State → ℕ → State
 inKernel st handler = withPc (withStack (withSystem st false true (st .i)) (minus (st .ssp) 4) (st .usp)) handler
 
 -- the entry with a number, `saved` being the PC that is pushed
-unfoldable pub entered : ℕ → ℕ → State → List ℕ → Outcome
-entered number saved st m =
-    record {
-      state = inKernel st (wordAt (pushed st saved m) (vectorOf number));
-      memory = pushed st saved m;
-      event = Entered number saved (flagOf st);
-    }
+abbrev pub entered : State → ℕ → ℕ → List ℕ → Outcome
+entered st number saved m =
+    let m′ : List ℕ = pushed (st .ssp) (flagOf st) saved m in
+    record { state = inKernel st (wordAt m′ (vectorOf number)); memory = m′; event = Entered number saved (flagOf st) }
 
 -- "If SSP is odd the machine is lost instead: one step, 0 states; the condition changes"
-unfoldable pub lost : State → List ℕ → Outcome
+abbrev pub lost : State → List ℕ → Outcome
 lost st m = record { state = withCondition st condition.Lost; memory = m; event = Lost }
 
--- The entry from the state `st`, or the loss of `kept`, where SSP is odd.
-unfoldable pub enterOr : State → ℕ → ℕ → State → List ℕ → Outcome
-enterOr kept number saved st m = cond (eqb (st .ssp % 2) 1) (lost kept m) (entered number saved st m)
+-- The entry, with `pending` the lines that are left, or the loss.
+unfoldable pub enterOf : State → ℕ → ℕ → ℕ → List ℕ → Outcome
+enterOf st pending number saved m = cond (eqb (st .ssp % 2) 1) (lost st m) (entered (withPending st pending) number saved m)

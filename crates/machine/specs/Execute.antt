@@ -1,6 +1,6 @@
 -- What an instruction does to the state, all of its tests passed. Document 01, "Results and flags".
 -- Assumes nothing.
-use mathlib.Core.Bool.{Bool, cond, _&&_, _||_}
+use mathlib.Core.Bool.{cond, _&&_}
 use Prim.Native.Nat.{ℕ}
 use lib.Dec.{eqb, leb}
 use Rattle.decode.specs.Code.{ADD, ADDS, AND, CALL, CMP, DIV, HALT, IN, LD, LDFLAG, MOD, MUL, OR, OUT, POP, PUSH, RET, RETI, SHRA, SHRL, SUB, XOR}
@@ -17,12 +17,11 @@ use Rattle.machine.specs.declared.Event.the-variants as event
 use Rattle.machine.specs.declared.Operation.{Operation}
 use Rattle.machine.specs.declared.State.{State}
 
--- the result and the flags of an instruction from ADD to SHRL
+-- the result and the flags of an instruction from ADD to SHRL but CMP, which has those of SUB
 unfoldable pub aluOf : ℕ → ℕ → ℕ → Alu
 aluOf code a b =
     cond (eqb code ADD) (addOf a b)
     (cond (eqb code SUB) (subOf a b)
-    (cond (eqb code CMP) (subOf a b)
     (cond (eqb code AND) (andOf a b)
     (cond (eqb code OR) (orOf a b)
     (cond (eqb code XOR) (xorOf a b)
@@ -32,21 +31,18 @@ aluOf code a b =
     (cond (eqb code MOD) (modOf a b)
     (cond (eqb code SHRA) (shraOf a b)
     (cond (eqb code SHRL) (shrlOf a b)
-    (shlOf a b))))))))))))
+    (shlOf a b)))))))))))
 
 abbrev pub withFlags : State → Alu → State
 withFlags st r = withArithmetic st (r .v) (r .c) (r .s) (r .z)
 
--- "CMP keeps Rd"
-unfoldable pub afterAlu : State → ℕ → ℕ → Alu → State
-afterAlu st code rd r = cond (eqb code CMP) (withFlags st r) (withReg (withFlags st r) rd (r .value))
-
 -- The state after an instruction but for PC. "LD, ST, jumps, stack and port instructions change no arithmetic flag; RETI loads FLAG. Those
--- listed from ADD to SHRL, and only they, set S and Z". "PUSH and CALL lower SP by 2 ...; POP, RET and RETI read and raise it." "POP SP
+-- listed from ADD to SHRL, and only they, set S and Z". "CMP keeps Rd". "PUSH and CALL lower SP by 2 ...; POP, RET and RETI read and raise it." "POP SP
 -- ends with the popped value; so does number 14 if P=0 (H)." RETI's SSP "rises by 4". "HALT sets condition 1".
 unfoldable pub bodyOf : State → Operation → State
 bodyOf st op =
     cond (eqb (op .code) LD) (withReg st (op .rd) (op .source))
+    (cond (eqb (op .code) CMP) (withFlags st (subOf (op .left) (op .source)))
     (cond (eqb (op .code) LDFLAG) (withReg st (op .rd) (op .source))
     (cond (eqb (op .code) CALL) (withSp st (minus (spOf st) 2))
     (cond (eqb (op .code) IN) (withReg (afterIn st (op .port)) (op .rd) (portValue st (op .port)))
@@ -56,8 +52,9 @@ bodyOf st op =
     (cond (eqb (op .code) RET) (withSp st (plus (spOf st) 2))
     (cond (eqb (op .code) RETI) (withFlag (withStack st (plus (st .ssp) 4) (st .usp)) (op .source))
     (cond (eqb (op .code) HALT) (withCondition st condition.Halted)
-    (cond (leb ADD (op .code) && leb (op .code) SHRL) (afterAlu st (op .code) (op .rd) (aluOf (op .code) (op .left) (op .source)))
-    st))))))))))
+    (cond (leb ADD (op .code) && leb (op .code) SHRL)
+    (let r : Alu = aluOf (op .code) (op .left) (op .source) in withReg (withFlags st r) (op .rd) (r .value))
+    st)))))))))))
 
 unfoldable pub afterOperation : State → Operation → State
 afterOperation st op = bodyOf (withPc st (op .pc)) op

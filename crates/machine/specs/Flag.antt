@@ -1,7 +1,7 @@
 -- The word FLAG. Document 01, "Registers and state image": "FLAG is 0000 0000 EPI0 VCSZ".
 -- Assumes nothing.
 use mathlib.Core.Bool.{Bool}
-use Prim.Native.Nat.{ℕ, _+_, _*_}
+use Prim.Native.Nat.{ℕ, _*_, _+_}
 use lib.Dec.{eqb}
 use mir.Val.{boolByte}
 use Rattle.word.specs.Word.{bit}

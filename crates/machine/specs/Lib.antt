@@ -8,5 +8,6 @@ pub mod Plan
 pub mod Ports
 pub mod Register
 pub mod Run
+pub mod Spelled
 pub mod State
 pub mod Step

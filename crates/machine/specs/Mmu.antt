@@ -2,13 +2,13 @@
 -- R-bit (referenced) 12, D (dirty) 11, rights read 10, write 9, execute 8, frame 7-0".
 -- Assumes nothing.
 use mathlib.Core.Bool.{Bool, cond, not, _&&_}
-use mathlib.Core.List.{List, [], _∷_}
-use Prim.Native.Nat.{ℕ, suc, _+_, _/_, _%_, _^_}
+use mathlib.Core.List.{List}
+use Prim.Native.Nat.{suc, zero, ℕ, _%_, _+_, _/_, _^_}
 use lib.Bits.{bitOr}
 use lib.Dec.{eqb, ltb}
 use lib.ListN.{getD, set}
 use Rattle.word.specs.Word.{joined, lower, upper}
-use Rattle.machine.specs.Answers.{rightBit}
+use Rattle.machine.specs.Answers.{causeBit, rightBit}
 use Rattle.machine.specs.Flag.{isSet}
 use Rattle.machine.specs.State.{withMissed, withViolation}
 use Rattle.machine.specs.declared.Access.{Access}
@@ -45,13 +45,15 @@ marked Write entry = withBit 11 (withBit 12 entry)
 abbrev pub translates : State → Bool
 translates st = st .mmu && not (st .p)
 
--- "The lowest-numbered valid entry with the page serves (H)." Its place counted from i, or the number past the last entry.
-unfoldable pub findFrom : List ℕ → ℕ → ℕ → ℕ
-findFrom [] page i = i
-findFrom (entry ∷ entries) page i = cond (eqb (pageIn entry) page && valid entry) i (findFrom entries page (suc i))
+-- "The lowest-numbered valid entry with the page serves (H)." Its place among `left` entries from k on, or the number past them.
+unfoldable pub findFrom : List ℕ → ℕ → ℕ → ℕ → ℕ
+findFrom tlb page zero k = k
+findFrom tlb page (suc left) k =
+    let later : ℕ = findFrom tlb page left (k + 1) in
+    cond (eqb (pageIn (getD tlb k 0)) page && valid (getD tlb k 0)) k later
 
 unfoldable pub findOf : List ℕ → ℕ → ℕ
-findOf tlb page = findFrom tlb page 0
+findOf tlb page = findFrom tlb page 8 0
 
 -- an access's answer, and the TLB after it
 pub record Accessed : Type 0 where
@@ -85,6 +87,6 @@ wordAccess on tlb right a = cond (eqb (a % 2) 1) (failed Odd tlb) (byteAccess on
 
 -- "Fault 11 stores its address and adds its cause bit; 10 stores the page."
 abbrev pub noted : Fault → ℕ → State → State
-noted Odd a st = withViolation st a (bitOr (st .cause) 2)
+noted Odd a st = withViolation st a (bitOr (st .cause) (causeBit Odd))
 noted Missing a st = withMissed st (upper a)
-noted Refused a st = withViolation st a (bitOr (st .cause) 1)
+noted Refused a st = withViolation st a (bitOr (st .cause) (causeBit Refused))

@@ -2,7 +2,7 @@
 -- Assumes nothing.
 use mathlib.Core.Bool.{Bool, cond, _&&_}
 use mathlib.Core.List.{List}
-use Prim.Native.Nat.{ℕ, _+_, _-_, _*_, _/_, _%_}
+use Prim.Native.Nat.{ℕ, _%_, _*_, _+_, _-_, _/_}
 use lib.Dec.{eqb, leb}
 use lib.ListN.{getD, set}
 use Rattle.word.specs.Word.{lower}
@@ -34,6 +34,10 @@ abbrev pub entryWritten : ℕ → ℕ → ℕ → ℕ
 entryWritten port entry v =
     cond (isPagePort port) (lower v * 65536 + entry % 65536) (pageIn entry * 65536 + lowerStored v)
 
+-- what the TLB's ports give
+unfoldable pub tlbPort : List ℕ → ℕ → ℕ
+tlbPort tlb port = cond (isTlbPort port) (entryShown port (getD tlb (entryAt port) 0)) 0
+
 -- What IN gives. "A2h: IN gives the violation address"; "A4h: IN gives the cause"; "A6h: IN gives the missed page"; "18h: IN input
 -- byte"; "Any other port, odd ones included, reads 0". Bytes have 0 in the upper half.
 unfoldable pub portIn : ℕ → ℕ → ℕ → ℕ → List ℕ → ℕ → ℕ
@@ -42,8 +46,7 @@ portIn input violation cause missed tlb port =
     (cond (eqb port 0xa2) violation
     (cond (eqb port 0xa4) cause
     (cond (eqb port 0xa6) missed
-    (cond (isTlbPort port) (entryShown port (getD tlb (entryAt port) 0))
-    0))))
+    (tlbPort tlb port))))
 
 abbrev pub portValue : State → ℕ → ℕ
 portValue st port = portIn (st .input) (st .violation) (st .cause) (st .missed) (st .tlb) port

@@ -1,10 +1,10 @@
 -- Registers by their numbers. Document 01: "0-11 G0-G11, 12 FP, 13 SP (SSP if P=1, USP if P=0), 14 USP". No instruction uses
 -- number 15: here it stands for USP.
 -- Assumes nothing.
-use mathlib.Core.Bool.{Bool, cond, not, _&&_, _||_}
+use mathlib.Core.Bool.{Bool, cond}
 use mathlib.Core.List.{List}
 use Prim.Native.Nat.{ℕ}
-use lib.Dec.{eqb, leb, ltb}
+use lib.Dec.{eqb, ltb}
 use lib.ListN.{getD, set}
 use Rattle.machine.specs.State.{withRegs, withStack}
 use Rattle.machine.specs.declared.State.{State}
@@ -15,9 +15,6 @@ spIn p ssp usp = cond p ssp usp
 
 abbrev pub spOf : State → ℕ
 spOf st = spIn (st .p) (st .ssp) (st .usp)
-
-abbrev pub fpOf : State → ℕ
-fpOf st = getD (st .regs) 12 0
 
 -- the value of register n
 unfoldable pub regIn : Bool → ℕ → ℕ → List ℕ → ℕ → ℕ

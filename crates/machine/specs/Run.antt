@@ -3,7 +3,7 @@
 -- kernel entered by the step just done, allowance spent."
 -- Assumes nothing.
 use mathlib.Core.List.{List}
-use Prim.Native.Nat.{ℕ, suc, zero, _+_}
+use Prim.Native.Nat.{suc, zero, ℕ, _+_}
 use Rattle.machine.specs.Answers.{statesOf}
 use Rattle.machine.specs.Enter.{Outcome}
 use Rattle.machine.specs.Step.{stepOf}
@@ -13,6 +13,7 @@ use Rattle.machine.specs.declared.Ending.{Ending}
 use Rattle.machine.specs.declared.Ending.the-variants as ending
 use Rattle.machine.specs.declared.Event.{Event}
 use Rattle.machine.specs.declared.Event.the-variants as event
+use Rattle.machine.specs.declared.Finished.{Finished}
 use Rattle.machine.specs.declared.State.{State}
 
 -- the end of a run: the last state and memory, the steps done and their states, and why it ended
@@ -48,6 +49,16 @@ runFrom (suc left) st m n t =
     let after : Ran = unlessEntered (o .event) (o .state) (o .memory) (n + 1) (t + statesOf (o .event)) rest in
     unlessStopped (st .condition) st m n t after
 
+-- how a run of no step ends
+abbrev pub stoppedEnding : Condition → Ending
+stoppedEnding condition.Running = ending.Spent
+stoppedEnding condition.Halted = ending.Halted
+stoppedEnding condition.Lost = ending.Lost
+
 -- a run of an allowance of steps
 unfoldable pub runOf : ℕ → State → List ℕ → Ran
 runOf allowance st m = runFrom allowance st m 0 0
+
+-- the end of a run, without the memory
+abbrev pub finished : Ran → Finished
+finished r = record { state = r .state; steps = r .steps; states = r .states; ending = r .ending }

@@ -1,4 +1,15 @@
 // The machine: its state, and what each of its parts answers.
+mod enter;
+mod execute;
+mod flag;
+mod memory;
+mod mmu;
+mod operand;
+mod planning;
+mod port;
+mod register;
+mod running;
+mod step;
 
 // The condition of a machine.
 pub enum Condition {
@@ -82,6 +93,23 @@ pub enum Transfer {
     Fails(Fault, u16),
 }
 
+// An instruction before its last tests.
+pub struct Ready {
+    pub code: u8,
+    pub rd: u8,
+    // The value of Rd before the instruction.
+    pub left: u16,
+    // The operand's address.
+    pub address: u16,
+    // The address of the following instruction.
+    pub following: u16,
+    // The states that decoding gives.
+    pub cost: u8,
+    // The operand's value.
+    pub source: u16,
+    pub store: Store,
+}
+
 // An instruction of which every test has passed.
 pub struct Operation {
     pub code: u8,
@@ -132,4 +160,12 @@ pub enum Ending {
     Entered(u8, u16, u16),
     Halted,
     Lost,
+}
+
+// The end of a run: the last state, the steps done, their states, and how it ended.
+pub struct Finished {
+    pub state: State,
+    pub steps: u16,
+    pub states: u32,
+    pub ending: Ending,
 }

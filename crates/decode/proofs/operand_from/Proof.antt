@@ -4,17 +4,17 @@ use mathlib.Core.Path.{ap, _∙_}
 use mir.Syntax.{w16}
 use mir.ValLaws.{toZ-ofZ}
 use borrow.Author.Needs.{needs}
-use Rattle.decode.specs.declared.Operand.the-variants.{Frame, Short}
 use borrow.Author.Tests.{ne-eqb}
 use Rattle.decode.specs.Decode.{operandOf}
+use Rattle.decode.specs.declared.Operand.the-variants.{Frame, Short}
 use Rattle.decode.proofs.operand_from.Statement.{statement}
 use Rattle.decode.proofs.operand_from.Tie as tie
 
+frame-offset-requires : tie.Need-frame-offset-requires
+frame-offset-requires c κs = search needs
+
 four-bits-requires : tie.Need-four-bits-requires
 four-bits-requires c κs = search needs
-
-four-bits-requires-2 : tie.Need-four-bits-requires-2
-four-bits-requires-2 c κs = search needs
 
 returns : tie.Need-returns
 unfolding operandOf
@@ -30,7 +30,7 @@ returns-3 c = rw (c .match .keys3)
 
 returns-4 : tie.Need-returns-4
 unfolding operandOf
-returns-4 c = rw (c .before .match .keys4) (ap Frame (toZ-ofZ w16 (c .four-bits .result) (record { sfits = c .four-bits .ok }) ∙ c .four-bits .ensures))
+returns-4 c = rw (c .before .match .keys4) (ap Frame (toZ-ofZ w16 (c .frame-offset .result) (record { sfits = c .frame-offset .ok }) ∙ c .frame-offset .ensures))
 
 returns-5 : tie.Need-returns-5
 unfolding operandOf
@@ -38,7 +38,7 @@ returns-5 c = rw (c .match .keys5)
 
 returns-6 : tie.Need-returns-6
 unfolding operandOf
-returns-6 c = rw (c .before .match .keys6) (ap Short (toZ-ofZ w16 (c .four-bits2 .result) (record { sfits = c .four-bits2 .ok }) ∙ c .four-bits2 .ensures))
+returns-6 c = rw (c .before .match .keys6) (ap Short (toZ-ofZ w16 (c .four-bits .result) (record { sfits = c .four-bits .ok }) ∙ c .four-bits .ensures))
 
 returns-7 : tie.Need-returns-7
 unfolding operandOf
@@ -56,8 +56,8 @@ pub operand-from-spec : {M : Type 1} → statement M
 operand-from-spec =
     tie.close
     (tie.spec
+    frame-offset-requires
     four-bits-requires
-    four-bits-requires-2
     returns
     returns-2
     returns-3

@@ -1,0 +1,13 @@
+-- `image::judging::flag_good` meets its contract.
+-- Assumes nothing.
+use mathlib.Core.Path.{refl}
+use Rattle.image.specs.Decode.{flagGood}
+use Rattle.image.proofs.judging.flag_good.Statement.{statement}
+use Rattle.image.proofs.judging.flag_good.Tie as tie
+
+returns : tie.Need-returns
+unfolding flagGood
+returns c = refl
+
+pub flag-good-spec : {M : Type 1} → statement M
+flag-good-spec = tie.close (tie.spec returns)

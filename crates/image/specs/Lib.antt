@@ -1,0 +1,4 @@
+pub mod Decode
+pub mod Image
+pub mod Refusal
+pub mod Report

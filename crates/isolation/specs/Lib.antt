@@ -1,0 +1,12 @@
+pub mod Access
+pub mod Cases
+pub mod Demand
+pub mod Onward
+pub mod PlanKeeps
+pub mod PlanSame
+pub mod Reads
+pub mod Rights
+pub mod Stays
+pub mod Steps
+pub mod Stores
+pub mod Theorem

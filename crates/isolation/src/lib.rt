@@ -1,0 +1,1 @@
+// Isolation of user programs: a theorem about the definitions of `machine`, no functions.

@@ -1,0 +1,55 @@
+-- `machine::State::enter_kernel` meets its contract.
+-- Assumes nothing.
+use mathlib.Core.Path.{refl}
+use borrow.Author.Needs.{needs}
+use borrow.Author.Tests.{eq-eqb, ne-eqb}
+use Rattle.machine.specs.Enter.{enterOf}
+use Rattle.machine.proofs.State.enter_kernel.Statement.{statement}
+use Rattle.machine.proofs.State.enter_kernel.Tie as tie
+
+set-condition-requires : tie.Need-set-condition-requires
+set-condition-requires c κs = search needs
+
+returns : tie.Need-returns
+unfolding enterOf
+returns c = rw (eq-eqb _ _ (c .before .if1 .taken)) (c .set-condition .ensures, (refl, refl))
+
+flag-requires : tie.Need-flag-requires
+flag-requires c κs = search needs
+
+push-both-requires : tie.Need-push-both-requires
+push-both-requires c κs = search needs
+
+mul-plus : tie.Need-mul-plus
+mul-plus c = search needs
+
+plus-requires : tie.Need-plus-requires
+plus-requires c κs = search needs
+
+word-at-requires : tie.Need-word-at-requires
+word-at-requires c κs = search needs
+
+in-kernel-requires : tie.Need-in-kernel-requires
+in-kernel-requires c κs = search needs
+
+same-length : tie.Need-same-length
+same-length c = search needs
+
+returns-2 : tie.Need-returns-2
+unfolding enterOf
+returns-2 c = rw (ne-eqb _ _ (c .before .before .before .before .before .before .before .before .before .if1 .left), ← c .before .before .before .before .before .before .before .before .flag .ensures, ← c .before .before .before .before .before .before .push-both .ensures, ← c .before .before .plus .ensures, ← c .before .word-at .ensures) (c .in-kernel .ensures, (refl, refl))
+
+pub enter-kernel-spec : {M : Type 1} → statement M
+enter-kernel-spec =
+    tie.close
+    (tie.spec
+    set-condition-requires
+    returns
+    flag-requires
+    push-both-requires
+    mul-plus
+    plus-requires
+    word-at-requires
+    in-kernel-requires
+    same-length
+    returns-2)

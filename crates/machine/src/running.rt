@@ -1,0 +1,94 @@
+// A run.
+ghost use mathlib.Core.Path.{_≡_};
+ghost use lib.ListN.{length};
+ghost use Rattle.machine.specs.Answers.{statesOf};
+ghost use Rattle.machine.specs.Run as def;
+ghost use Rattle.machine.specs.State.{laid};
+use crate::Condition;
+use crate::Ending;
+use crate::Event;
+use crate::Finished;
+use crate::State;
+
+// The states of a step.
+fn states_of(event: Event) -> u16
+    ensures { λ r. ⌜ r ≡ statesOf event ⌝ }
+{
+    match event {
+        Event::Executed(n) => n,
+        Event::Entered(_, _, _) => 12,
+        Event::Halted => 5,
+        Event::Lost => 0,
+    }
+}
+
+impl State {
+    // The end of a run, the registers and the TLB put back.
+    fn finish_run(
+        self,
+        regs: [u16; 13],
+        tlb: [u32; 8],
+        steps: u16,
+        states: u32,
+        ending: Ending,
+    ) -> Finished
+        ensures { λ r. ⌜ r ≡ record { state = laid self regs tlb; steps = steps; states = states; ending = ending } ⌝ }
+    {
+        Finished {
+            state: self.put_back(regs, tlb),
+            steps,
+            states,
+            ending,
+        }
+    }
+
+    // A run of at most `allowance` steps.
+    pub fn run(self, mem: &mut [u8], allowance: u16) -> Finished
+        requires { ⌜ length (now mem) ≡ 65536 ⌝ }
+        ensures answer { λ r. ⌜ r ≡ def.finished (def.runOf allowance self (now (mem .entry))) ⌝ }
+        ensures memory { λ r. ⌜ now (mem .exit) ≡ (def.runOf allowance self (now (mem .entry))) .memory ⌝ }
+    {
+        let table = decode::entries();
+        let mut regs = self.regs;
+        let mut tlb = self.tlb;
+        let mut state = self.put_back(regs, tlb);
+        let mut steps: u16 = 0;
+        let mut states: u32 = 0;
+        loop {
+            let condition = state.condition;
+            match condition {
+                Condition::Halted => return state.finish_run(
+                    regs,
+                    tlb,
+                    steps,
+                    states,
+                    Ending::Halted,
+                ),
+                Condition::Lost => return state.finish_run(regs, tlb, steps, states, Ending::Lost),
+                Condition::Running => {}
+            }
+            if steps == allowance {
+                return state.finish_run(regs, tlb, steps, states, Ending::Spent);
+            }
+            let stepped = state.advance(&mut regs, &mut tlb, mem, &table);
+            let event = stepped.event;
+            steps += 1;
+            states += states_of(event) as u32;
+            state = stepped.state;
+            match event {
+                Event::Entered(number, pc, flag) => {
+                    return state.finish_run(
+                        regs,
+                        tlb,
+                        steps,
+                        states,
+                        Ending::Entered(number, pc, flag),
+                    );
+                }
+                Event::Executed(_) => {}
+                Event::Halted => {}
+                Event::Lost => {}
+            }
+        }
+    }
+}

@@ -1,0 +1,5 @@
+pub mod Cases
+pub mod Good
+pub mod Images
+pub mod Runs
+pub mod Steps

@@ -1,0 +1,30 @@
+-- `tac::view_tested` meets its contract.
+-- Assumes nothing.
+use borrow.Author.Needs.{needs}
+use Rattle.tac.proofs.view_tested.Statement.{statement}
+use Rattle.tac.proofs.view_tested.Tie as tie
+
+read-image-requires : tie.Need-read-image-requires
+read-image-requires c κs = search needs
+
+ending-at-rest-requires : tie.Need-ending-at-rest-requires
+ending-at-rest-requires c κs = search needs
+
+write-report-requires : tie.Need-write-report-requires
+write-report-requires c κs = search needs
+
+same-length : tie.Need-same-length
+same-length c = search needs
+
+returns : tie.Need-returns
+returns c = rw (← c .before .before .before .before .before .read-image .ensures, ← c .before .before .before .ending-at-rest .ensures) (c .before .before .write-report .ensures)
+
+pub view-tested-spec : {M : Type 1} → statement M
+view-tested-spec =
+    tie.close
+    (tie.spec
+    read-image-requires
+    ending-at-rest-requires
+    write-report-requires
+    same-length
+    returns)

@@ -1,0 +1,50 @@
+-- What an exported call answers and leaves in the lent buffers. Document 01, the table of refusals: "Left as it was: memory, image, report";
+-- "A call without card or report skips their tests."
+-- Assumes nothing.
+use mathlib.Core.List.{List, _++_}
+use Prim.Native.Nat.{ℕ}
+use lib.ListN.{drop, length}
+use Rattle.image.specs.Decode.{stateFrom}
+use Rattle.image.specs.Image.{imageOf}
+use Rattle.image.specs.Refusal.{answerOf, thenReport, verdictOf}
+use Rattle.image.specs.Report.{reportOfRan}
+use Rattle.image.specs.declared.Verdict.{Verdict}
+use Rattle.image.specs.declared.Verdict.the-variants.{Good, Refused}
+use Rattle.machine.specs.Run.{Ran, runOf}
+
+-- the answer, and the buffers after the call
+pub record Call : Type 0 where
+  pub answer : ℕ
+  pub memory : List ℕ
+  pub image : List ℕ
+  pub report : List ℕ
+
+-- refused: the buffers are left as they were; else as the second argument says
+abbrev pub unlessRefused : Verdict → List ℕ → List ℕ → List ℕ → Call → Call
+unlessRefused (Refused r) m b rep done = record { answer = answerOf r; memory = m; image = b; report = rep }
+unlessRefused Good m b rep done = done
+
+-- the tests of a run and of a view: refusals 1, 2, 3 and 8
+abbrev pub tested : List ℕ → List ℕ → List ℕ → Verdict
+tested m b rep = thenReport (verdictOf (length m) b) (length rep) 12
+
+-- the answer 12, for the bytes of one report, in front of what the report held
+abbrev pub ranCall : Ran → List ℕ → Call
+ranCall r rep =
+    record { answer = 12; memory = r .memory; image = imageOf (r .state); report = reportOfRan r ++ drop 12 rep }
+
+-- a run
+unfoldable pub runCall : List ℕ → List ℕ → ℕ → List ℕ → Call
+runCall m b allowance rep =
+    let done : Call = ranCall (runOf allowance (stateFrom b) m) rep in
+    unlessRefused (tested m b rep) m b rep done
+
+-- a view: the report that a run of allowance 0 would write; memory and image are kept
+abbrev pub viewedCall : List ℕ → List ℕ → List ℕ → Call
+viewedCall m b rep =
+    record { answer = 12; memory = m; image = b; report = reportOfRan (runOf 0 (stateFrom b) m) ++ drop 12 rep }
+
+unfoldable pub viewCall : List ℕ → List ℕ → List ℕ → Call
+viewCall m b rep =
+    let done : Call = viewedCall m b rep in
+    unlessRefused (tested m b rep) m b rep done

@@ -1,0 +1,9 @@
+//! Tests of this package's own emulator against the papers.
+
+mod cards;
+mod common;
+mod decoding;
+mod examples;
+mod random;
+mod refusals;
+mod rulings;

@@ -1,0 +1,289 @@
+//! Sets libtac.a beside the emulator of this package, byte for byte.
+//!
+//! compare [--factor N] [--seed N] [--part words|runs|cards|pairs] [--verbose 1]
+//!
+//! With `--verbose 1` each case is named before it is tried, for a crash.
+
+use std::process::exit;
+use std::time::Instant;
+use tac_tests::card::REPORT;
+use tac_tests::case::{self, difference, perform, Call, Case, Emulator, Outcome, OWN};
+use tac_tests::emulator::{Machine, FLAG_BITS, I, MEMORY, P};
+use tac_tests::generate::Maker;
+use tac_tests::isolation::{self, After, Pair};
+use tac_tests::program::Ground;
+use tac_tests::rng::Rng;
+use tac_tests::{ffi, image, sample};
+
+#[cfg(feature = "card")]
+const CARD: Option<case::CardCall> = Some(ffi::card);
+#[cfg(not(feature = "card"))]
+const CARD: Option<case::CardCall> = None;
+
+const LIBRARY: Emulator = Emulator { run: ffi::run, card: CARD, view: ffi::view };
+
+const ROUNDS: u64 = 2;
+const RUNS: u64 = 300_000;
+const CARDS: u64 = 150_000;
+const PAIRS: u64 = 60_000;
+
+struct Arguments {
+    factor: u64,
+    seed: u64,
+    part: Option<String>,
+    verbose: bool,
+}
+
+const USAGE: &str = "usage: compare [--factor N] [--seed N] [--part words|runs|cards|pairs] [--verbose 1]";
+
+fn arguments() -> Arguments {
+    let mut result = Arguments { factor: 1, seed: 1, part: None, verbose: false };
+    let mut list = std::env::args().skip(1);
+    while let Some(name) = list.next() {
+        let value = list.next().unwrap_or_default();
+        match (name.as_str(), value.parse::<u64>()) {
+            ("--factor", Ok(number)) => result.factor = number,
+            ("--seed", Ok(number)) => result.seed = number,
+            ("--verbose", Ok(number)) => result.verbose = number != 0,
+            ("--part", Err(_)) if ["words", "runs", "cards", "pairs"].contains(&value.as_str()) => {
+                result.part = Some(value)
+            }
+            _ => {
+                eprintln!("{USAGE}");
+                exit(2);
+            }
+        }
+    }
+    result
+}
+
+/// How the runs of a part ended.
+#[derive(Default)]
+struct Count {
+    cases: u64,
+    refused: [u64; 9],
+    endings: [u64; 4],
+    entered: [u64; 16],
+    steps: u64,
+    long: u64,
+}
+
+impl Count {
+    /// One run's 12 bytes.
+    fn run(&mut self, report: &[u8]) {
+        let steps = u16::from_be_bytes([report[2], report[3]]) as u64;
+        self.endings[report[0] as usize] += 1;
+        if report[0] == 1 {
+            self.entered[report[1] as usize] += 1;
+        }
+        self.steps += steps;
+        self.long += (steps >= 100) as u64;
+    }
+
+    fn outcome(&mut self, outcome: &Outcome) {
+        self.cases += 1;
+        let refusal = (outcome.answer >> 32) as usize;
+        if refusal != 0 {
+            self.refused[refusal] += 1;
+            return;
+        }
+        for report in outcome.report[..outcome.answer as usize].chunks(REPORT) {
+            self.run(report);
+        }
+    }
+
+    fn print(&self, name: &str, start: Instant) {
+        let runs: u64 = self.endings.iter().sum();
+        println!("{name}: {} cases, {:.1} s, all equal", self.cases, start.elapsed().as_secs_f64());
+        let [spent, entered, halted, lost] = self.endings;
+        println!("  runs {runs}: spent {spent}, entered {entered}, halted {halted}, lost {lost}");
+        println!("  steps: {:.1} a run, {} runs of 100 or more", self.steps as f64 / runs.max(1) as f64, self.long);
+        let list = |numbers: &[u64]| {
+            let named = numbers.iter().enumerate().filter(|(_, n)| **n != 0);
+            named.map(|(k, n)| format!("{k}:{n}")).collect::<Vec<_>>().join(" ")
+        };
+        println!("  entered by number: {}", list(&self.entered));
+        if self.refused.iter().any(|n| *n != 0) {
+            println!("  refused by number: {}", list(&self.refused));
+        }
+    }
+}
+
+/// The buffers of both emulators, used again for every case.
+#[derive(Default)]
+struct Bench {
+    verbose: bool,
+    own: Outcome,
+    library: Outcome,
+}
+
+impl Bench {
+    fn new(args: &Arguments) -> Bench {
+        Bench { verbose: args.verbose, ..Bench::default() }
+    }
+
+    /// Does the case twice; on a difference prints the smallest case and ends.
+    fn compare(&mut self, case: &Case, count: &mut Count, place: &dyn Fn() -> String) {
+        if self.verbose {
+            eprintln!("{}", place());
+        }
+        perform(&OWN, case, &mut self.own);
+        perform(&LIBRARY, case, &mut self.library);
+        if self.own != self.library {
+            println!("MISMATCH in {}", place());
+            println!("as found: {}", difference(&self.own, &self.library).unwrap_or_default());
+            let small = case::shrink(case, &|c| case::differ(&OWN, &LIBRARY, c));
+            print!("smallest case found:\n{}", case::describe(&small, &OWN, &LIBRARY));
+            exit(1);
+        }
+        count.outcome(&self.own);
+    }
+}
+
+/// A start for single steps: random memory, useful TLB.
+fn word_start(rng: &mut Rng, mmu_on: bool, bits: u16) -> (Machine, Ground) {
+    let mut machine = Machine::new();
+    rng.fill(&mut machine.memory);
+    machine.tlb = sample::tlb(rng);
+    sample::make_useful(rng, &mut machine.tlb);
+    machine.mmu_on = mmu_on;
+    machine.flag = bits;
+    let ground = if mmu_on && bits & P == 0 { Ground::of_tlb(&machine.tlb) } else { Ground::untranslated(rng) };
+    (machine, ground)
+}
+
+/// Every first word, one step, in each mode.
+fn words(args: &Arguments) {
+    let settings = [
+        ("user", true, 0),
+        ("user with I/O", true, I),
+        ("user, MMU off", false, 0),
+        ("kernel", true, P),
+        ("kernel, MMU off", false, P | I),
+    ];
+    let mut bench = Bench::new(args);
+    for (k, (name, mmu_on, bits)) in settings.into_iter().enumerate() {
+        let start = Instant::now();
+        let mut count = Count::default();
+        for round in 0..ROUNDS * args.factor {
+            let mut rng = Rng::of_case(args.seed, 1 + k as u64, round);
+            let (mut machine, ground) = word_start(&mut rng, mmu_on, bits);
+            let mut case = Case::empty();
+            case.memory = std::mem::take(&mut machine.memory);
+            case.report = vec![0xEE; REPORT];
+            case.call = Call::Run(1);
+            let pages = [&ground.code[..], &ground.read, &ground.write].concat();
+            for first in 0..=0xFFFFu16 {
+                word_state(&mut rng, &mut machine, &ground, &pages, bits);
+                let place = [0, 2].map(|d| instruction_place(&machine, &ground, d));
+                let kept = place.map(|at| [case.memory[at], case.memory[at + 1]]);
+                let second = sample::value(&mut rng, &pages);
+                case.memory[place[1]..place[1] + 2].copy_from_slice(&second.to_be_bytes());
+                case.memory[place[0]..place[0] + 2].copy_from_slice(&first.to_be_bytes());
+                case.image.clear();
+                case.image.extend_from_slice(&image::write(&machine));
+                bench.compare(&case, &mut count, &|| format!("words, {name}, round {round}, first word {first:04X}"));
+                case.memory[place[1]..place[1] + 2].copy_from_slice(&kept[1]);
+                case.memory[place[0]..place[0] + 2].copy_from_slice(&kept[0]);
+            }
+        }
+        count.print(&format!("words ({name})"), start);
+    }
+}
+
+fn word_state(rng: &mut Rng, machine: &mut Machine, ground: &Ground, pages: &[u8], bits: u16) {
+    for n in 0..13 {
+        machine.regs[n] = if rng.chance(5) { rng.pick(&sample::PORTS) } else { sample::value(rng, pages) };
+    }
+    machine.ssp = sample::value(rng, &ground.write) & if rng.chance(90) { 0xFFFE } else { 0xFFFF };
+    machine.usp = sample::value(rng, &ground.write);
+    machine.pc = sample::inside(rng, &ground.code) & 0xFFFE;
+    machine.flag = bits | rng.word() & FLAG_BITS & !(P | I);
+    machine.violation = rng.word();
+    machine.cause = rng.below(4) as u8;
+    machine.missed = rng.byte();
+    machine.input = rng.byte();
+}
+
+/// Where the word at PC + d lies, for the program's own page.
+fn instruction_place(machine: &Machine, ground: &Ground, d: u16) -> usize {
+    let address = machine.pc.wrapping_add(d);
+    ground.frame(&machine.tlb, (address >> 8) as u8) + (address & 0xFF) as usize
+}
+
+fn runs(args: &Arguments) {
+    let start = Instant::now();
+    let (mut bench, mut count) = (Bench::new(args), Count::default());
+    let (mut maker, mut case) = (Maker::new(), Case::empty());
+    for index in 0..RUNS * args.factor {
+        let mut rng = Rng::of_case(args.seed, 20, index);
+        maker.run_case(&mut rng, &mut case);
+        bench.compare(&case, &mut count, &|| format!("runs, case {index}"));
+    }
+    count.print("runs", start);
+}
+
+#[cfg(feature = "card")]
+fn cards(args: &Arguments) {
+    let start = Instant::now();
+    let (mut bench, mut count) = (Bench::new(args), Count::default());
+    let (mut maker, mut case) = (Maker::new(), Case::empty());
+    for index in 0..CARDS * args.factor {
+        let mut rng = Rng::of_case(args.seed, 30, index);
+        maker.card_case(&mut rng, &mut case);
+        bench.compare(&case, &mut count, &|| format!("cards, case {index}"));
+    }
+    count.print("cards", start);
+}
+
+#[cfg(not(feature = "card"))]
+fn cards(_: &Arguments) {
+    println!("cards: left out (built without the feature card; {CARDS} cases otherwise)");
+}
+
+/// Demand 3, on the library alone.
+fn pairs(args: &Arguments) {
+    let start = Instant::now();
+    let mut count = Count::default();
+    let (mut maker, mut pair) = (Maker::new(), Pair::empty());
+    let (mut a, mut b) = (After::empty(), After::empty());
+    let [mut handlers, mut overwrote, mut stored] = [0u64; 3];
+    for index in 0..PAIRS * args.factor {
+        let mut rng = Rng::of_case(args.seed, 40, index);
+        maker.pair(&mut rng, &mut pair);
+        if args.verbose {
+            eprintln!("pairs, case {index}");
+        }
+        assert!(pair.first.len() == MEMORY && pair.first != pair.second);
+        match isolation::check(ffi::run, &pair, &mut a, &mut b) {
+            Ok(seen) => {
+                count.cases += 1;
+                count.run(&seen.report);
+                handlers += seen.other_handler as u64;
+                overwrote += seen.overwrote as u64;
+                stored += seen.stored as u64;
+            }
+            Err(what) => {
+                println!("DEMAND 3 FAILS in pairs, case {index}: {what}");
+                print!("smallest pair found:\n{}", isolation::explain(ffi::run, &pair));
+                exit(1);
+            }
+        }
+    }
+    count.print("pairs", start);
+    println!("  pairs with different handlers {handlers}, with secrets overwritten {overwrote}, with stores {stored}");
+}
+
+fn main() {
+    let args = arguments();
+    println!("compare: seed {}, factor {}", args.seed, args.factor);
+    let wanted = |name: &str| args.part.as_deref().is_none_or(|part| part == name);
+    type Part = (&'static str, fn(&Arguments));
+    let parts: [Part; 4] = [("words", words), ("runs", runs), ("cards", cards), ("pairs", pairs)];
+    for (name, part) in parts {
+        if wanted(name) {
+            part(&args);
+        }
+    }
+    println!("no mismatch");
+}

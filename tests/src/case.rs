@@ -1,0 +1,225 @@
+//! A call on buffers, done by two emulators; what differs, and the smallest
+//! call that still shows it.
+
+use crate::card;
+use std::fmt::Write;
+use std::ops::Range;
+
+pub type RunCall = fn(&mut [u8], &mut [u8], u16, &mut [u8]) -> u64;
+pub type CardCall = fn(&mut [u8], &mut [u8], &[u8], &mut [u8]) -> u64;
+pub type ViewCall = fn(&[u8], &[u8], &mut [u8]) -> u64;
+
+/// An emulator by its three calls.
+#[derive(Clone, Copy)]
+pub struct Emulator {
+    pub run: RunCall,
+    /// None for a library without `tac_card`.
+    pub card: Option<CardCall>,
+    pub view: ViewCall,
+}
+
+/// The emulator of this package.
+pub const OWN: Emulator = Emulator { run: card::run, card: Some(card::card), view: card::view };
+
+#[derive(Clone, Debug)]
+pub enum Call {
+    Run(u16),
+    View,
+    Card(Vec<u8>),
+}
+
+/// The buffers as they are before the call.
+#[derive(Clone, Debug)]
+pub struct Case {
+    pub memory: Vec<u8>,
+    pub image: Vec<u8>,
+    pub report: Vec<u8>,
+    pub call: Call,
+}
+
+impl Case {
+    pub fn empty() -> Case {
+        Case { memory: Vec::new(), image: Vec::new(), report: Vec::new(), call: Call::View }
+    }
+}
+
+/// The answer, and the buffers as they are after the call.
+#[derive(Clone, Debug, Default, PartialEq, Eq)]
+pub struct Outcome {
+    pub answer: u64,
+    pub memory: Vec<u8>,
+    pub image: Vec<u8>,
+    pub report: Vec<u8>,
+}
+
+/// Does the call on copies of the case's buffers.
+pub fn perform(emulator: &Emulator, case: &Case, out: &mut Outcome) {
+    out.memory.clear();
+    out.memory.extend_from_slice(&case.memory);
+    out.image.clear();
+    out.image.extend_from_slice(&case.image);
+    out.report.clear();
+    out.report.extend_from_slice(&case.report);
+    let (memory, image, report) = (&mut out.memory, &mut out.image, &mut out.report);
+    out.answer = match &case.call {
+        Call::Run(allowance) => (emulator.run)(memory, image, *allowance, report),
+        Call::View => (emulator.view)(memory, image, report),
+        Call::Card(card) => {
+            let call = emulator.card.expect("cards are made only where both emulators take them");
+            call(memory, image, card, report)
+        }
+    };
+}
+
+/// The first thing in which two outcomes differ.
+pub fn difference(a: &Outcome, b: &Outcome) -> Option<String> {
+    if a.answer != b.answer {
+        return Some(format!("answers differ: {:#x} and {:#x}", a.answer, b.answer));
+    }
+    let buffers = [("report", &a.report, &b.report), ("image", &a.image, &b.image), ("memory", &a.memory, &b.memory)];
+    for (name, x, y) in buffers {
+        if x != y {
+            let at = (0..x.len()).find(|&k| x[k] != y[k]).unwrap_or(0);
+            let (p, q) = (x[at], y[at]);
+            return Some(format!("{name} differs first at offset {at} ({at:04X}h): {p:02X} and {q:02X}"));
+        }
+    }
+    None
+}
+
+/// Do the two emulators differ on this case?
+pub fn differ(first: &Emulator, second: &Emulator, case: &Case) -> bool {
+    let (mut a, mut b) = (Outcome::default(), Outcome::default());
+    perform(first, case, &mut a);
+    perform(second, case, &mut b);
+    a != b
+}
+
+/// The smallest number up to `high` that fails, if failing goes on upwards.
+pub fn smallest(high: u16, mut fails: impl FnMut(u16) -> bool) -> u16 {
+    let (mut low, mut high) = (0, high);
+    while low < high {
+        let middle = low + (high - low) / 2;
+        if fails(middle) {
+            high = middle;
+        } else {
+            low = middle + 1;
+        }
+    }
+    high
+}
+
+/// Offers ever smaller parts of a buffer to `attempt`, which zeroes a part and
+/// puts it back if the case then no longer fails.
+pub fn shrink_parts(length: usize, mut attempt: impl FnMut(Range<usize>)) {
+    let mut size = length.next_power_of_two().max(2);
+    while size >= 2 {
+        for start in (0..length).step_by(size) {
+            attempt(start..(start + size).min(length));
+        }
+        size /= 2;
+    }
+}
+
+fn zero_parts(case: &mut Case, buffer: fn(&mut Case) -> &mut Vec<u8>, fails: &dyn Fn(&Case) -> bool) {
+    shrink_parts(buffer(case).len(), |part| {
+        let bytes = &mut buffer(case)[part.clone()];
+        let old = bytes.to_vec();
+        bytes.fill(0);
+        if old.iter().any(|b| *b != 0) && !fails(case) {
+            buffer(case)[part].copy_from_slice(&old);
+        }
+    });
+}
+
+/// Leaves out parts of a card while the case fails.
+fn cut_card(case: &mut Case, fails: &dyn Fn(&Case) -> bool) {
+    for size in [1024, 256, 64, 16, 5, 4, 3, 2, 1] {
+        let mut at = 0;
+        loop {
+            let Call::Card(card) = &case.call else { return };
+            if at >= card.len() {
+                break;
+            }
+            let old = card.clone();
+            let mut shorter = old.clone();
+            shorter.drain(at..(at + size).min(old.len()));
+            case.call = Call::Card(shorter);
+            if !fails(case) {
+                case.call = Call::Card(old);
+                at += size;
+            }
+        }
+    }
+}
+
+/// A smaller case that still fails: fewer steps, then zero memory and image.
+pub fn shrink(case: &Case, fails: &dyn Fn(&Case) -> bool) -> Case {
+    let mut case = case.clone();
+    if let Call::Run(allowance) = case.call {
+        let least = smallest(allowance, |n| fails(&Case { call: Call::Run(n), ..case.clone() }));
+        let fewer = Case { call: Call::Run(least), ..case.clone() };
+        if fails(&fewer) {
+            case = fewer;
+        }
+    }
+    // Twice, since leaving out one part moves the others.
+    cut_card(&mut case, fails);
+    cut_card(&mut case, fails);
+    zero_parts(&mut case, |c| &mut c.memory, fails);
+    zero_parts(&mut case, |c| &mut c.image, fails);
+    zero_parts(&mut case, |c| &mut c.report, fails);
+    case
+}
+
+pub fn hex(bytes: &[u8]) -> String {
+    bytes.iter().fold(String::new(), |mut text, byte| {
+        let _ = write!(text, "{byte:02X}");
+        text
+    })
+}
+
+/// The parts of a memory that are not zero, one on a line.
+pub fn ranges(memory: &[u8]) -> String {
+    let mut text = String::new();
+    let mut at = 0;
+    while at < memory.len() {
+        if memory[at] == 0 {
+            at += 1;
+            continue;
+        }
+        let start = at & !1;
+        let mut end = at + 1;
+        while end < memory.len() && end - start < 32 && memory[end..memory.len().min(end + 4)].iter().any(|b| *b != 0) {
+            end += 1;
+        }
+        let _ = writeln!(text, "  {start:04X}: {}", hex(&memory[start..end]));
+        at = end;
+    }
+    text
+}
+
+/// The case, both answers and the first difference, for a reader.
+pub fn describe(case: &Case, own: &Emulator, library: &Emulator) -> String {
+    let (mut a, mut b) = (Outcome::default(), Outcome::default());
+    perform(own, case, &mut a);
+    perform(library, case, &mut b);
+    let call = match &case.call {
+        Call::Run(allowance) => format!("run with allowance {allowance}"),
+        Call::View => "view".to_string(),
+        Call::Card(card) => format!("card of {} bytes: {}", card.len(), hex(card)),
+    };
+    let mut text = format!("call:    {call}\n");
+    let _ = writeln!(text, "memory:  {} bytes, zero but for", case.memory.len());
+    text.push_str(&ranges(&case.memory));
+    let _ = writeln!(text, "image:   {} bytes: {}", case.image.len(), hex(&case.image));
+    let _ = writeln!(text, "report:  {} bytes: {}", case.report.len(), hex(&case.report));
+    for (name, outcome) in [("this emulator", &a), ("libtac", &b)] {
+        let _ = writeln!(text, "{name}:");
+        let _ = writeln!(text, "  answer {:#x} (refusal {})", outcome.answer, outcome.answer >> 32);
+        let _ = writeln!(text, "  image  {}", hex(&outcome.image));
+        let _ = writeln!(text, "  report {}", hex(&outcome.report[..outcome.report.len().min(120)]));
+    }
+    let _ = writeln!(text, "{}", difference(&a, &b).unwrap_or_else(|| "no difference".to_string()));
+    text
+}

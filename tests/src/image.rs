@@ -1,0 +1,115 @@
+//! The state image of 68 bytes, upper byte first, and refusals 1 to 3.
+
+use crate::emulator::{Machine, FLAG_BITS, LINES, MEMORY, ZEROS};
+
+/// Bytes of an image.
+pub const IMAGE: usize = 68;
+
+// Offsets of the image's fields ("Registers and state image").
+pub const SSP: usize = 26;
+pub const USP: usize = 28;
+pub const PC: usize = 30;
+pub const FLAG: usize = 32;
+pub const PENDING: usize = 34;
+pub const INPUT: usize = 36;
+pub const OUTPUT: usize = 37;
+pub const MMU: usize = 38;
+pub const CONDITION: usize = 39;
+pub const VIOLATION: usize = 40;
+pub const CAUSE: usize = 42;
+pub const MISSED: usize = 43;
+pub const TLB: usize = 44;
+
+/// A refusal: its number and P.
+#[derive(Clone, Copy, Debug, PartialEq, Eq)]
+pub struct Refusal {
+    pub number: u8,
+    pub position: u32,
+}
+
+impl Refusal {
+    /// Refusals whose P is 0.
+    pub fn plain(number: u8) -> Refusal {
+        Refusal { number, position: 0 }
+    }
+
+    /// The answer of a call: refusal × 2^32 + P.
+    pub fn answer(self) -> u64 {
+        ((self.number as u64) << 32) | self.position as u64
+    }
+}
+
+fn word(bytes: &[u8], at: usize) -> u16 {
+    u16::from_be_bytes([bytes[at], bytes[at + 1]])
+}
+
+fn entry(bytes: &[u8], k: usize) -> u32 {
+    let at = TLB + 3 * k;
+    u32::from_be_bytes([0, bytes[at], bytes[at + 1], bytes[at + 2]])
+}
+
+/// Refusals 1, 2 and 3, in this order.
+pub fn test(memory: &[u8], image: &[u8]) -> Result<(), Refusal> {
+    if memory.len() != MEMORY {
+        return Err(Refusal::plain(1));
+    }
+    if image.len() != IMAGE {
+        return Err(Refusal::plain(2));
+    }
+    let good = word(image, FLAG) & !FLAG_BITS == 0
+        && word(image, PENDING) & !LINES == 0
+        && image[MMU] <= 1
+        && image[CONDITION] <= 2
+        && image[CAUSE] <= 3
+        && (0..8).all(|k| entry(image, k) & ZEROS == 0);
+    if !good {
+        return Err(Refusal::plain(3));
+    }
+    Ok(())
+}
+
+/// The machine that a good image shows, over this memory.
+pub fn read(memory: Vec<u8>, image: &[u8]) -> Machine {
+    Machine {
+        memory,
+        regs: std::array::from_fn(|n| word(image, 2 * n)),
+        ssp: word(image, SSP),
+        usp: word(image, USP),
+        pc: word(image, PC),
+        flag: word(image, FLAG),
+        pending: word(image, PENDING),
+        input: image[INPUT],
+        output: image[OUTPUT],
+        mmu_on: image[MMU] == 1,
+        condition: image[CONDITION],
+        violation: word(image, VIOLATION),
+        cause: image[CAUSE],
+        missed: image[MISSED],
+        tlb: std::array::from_fn(|k| entry(image, k)),
+    }
+}
+
+/// The image of a machine.
+pub fn write(machine: &Machine) -> [u8; IMAGE] {
+    let mut image = [0; IMAGE];
+    let mut put = |at: usize, value: u16| image[at..at + 2].copy_from_slice(&value.to_be_bytes());
+    for (n, &value) in machine.regs.iter().enumerate() {
+        put(2 * n, value);
+    }
+    put(SSP, machine.ssp);
+    put(USP, machine.usp);
+    put(PC, machine.pc);
+    put(FLAG, machine.flag);
+    put(PENDING, machine.pending);
+    put(VIOLATION, machine.violation);
+    image[INPUT] = machine.input;
+    image[OUTPUT] = machine.output;
+    image[MMU] = machine.mmu_on as u8;
+    image[CONDITION] = machine.condition;
+    image[CAUSE] = machine.cause;
+    image[MISSED] = machine.missed;
+    for (k, entry) in machine.tlb.iter().enumerate() {
+        image[TLB + 3 * k..TLB + 3 * k + 3].copy_from_slice(&entry.to_be_bytes()[1..]);
+    }
+    image
+}

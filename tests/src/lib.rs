@@ -1,0 +1,15 @@
+//! Another emulator of the TaC machine, made from the papers, and the tests
+//! that set it beside the library `libtac.a`.
+
+pub mod card;
+pub mod case;
+pub mod emulator;
+pub mod generate;
+pub mod image;
+pub mod isolation;
+pub mod program;
+pub mod rng;
+pub mod sample;
+
+#[cfg(feature = "library")]
+pub mod ffi;
