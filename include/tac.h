@@ -1,4 +1,4 @@
-/* The TaC emulator: runs and views of a machine in buffers that the caller lends.
+/* The TaC emulator: runs, bench cards and views of a machine in buffers that the caller lends.
  *
  * A machine is 65,536 bytes of memory and a state image of 68 bytes. Numbers in the image and in a report stand upper byte first.
  *
@@ -18,6 +18,7 @@ extern "C" {
 #define TAC_MEMORY_BYTES 65536
 #define TAC_IMAGE_BYTES 68
 #define TAC_REPORT_BYTES 12
+#define TAC_CARD_BYTES 4096 /* at most */
 
 /* Offsets in a state image. */
 enum {
@@ -70,6 +71,11 @@ enum {
  * behind them are kept. Refusals 1, 2, 3 and 8. */
 uint64_t tac_run(uint8_t *memory, size_t memory_len, uint8_t *image, size_t image_len, uint16_t allowance, uint8_t *report,
                  size_t report_len);
+
+/* A bench card: its commands one after the other. The card is tested whole before the first of them acts. Each run writes 12 bytes, one
+ * behind the other; the bytes behind them are kept. Refusals 1 to 8; P is the position of the first bad command for 5, 6 and 7, else 0. */
+uint64_t tac_card(uint8_t *memory, size_t memory_len, uint8_t *image, size_t image_len, const uint8_t *card, size_t card_len, uint8_t *report,
+                  size_t report_len);
 
 /* A look at a machine: the report that a run of no step would write. Memory and image are only read. Refusals 1, 2, 3 and 8. */
 uint64_t tac_view(const uint8_t *memory, size_t memory_len, const uint8_t *image, size_t image_len, uint8_t *report, size_t report_len);

@@ -4,6 +4,8 @@ mod cards;
 mod common;
 mod decoding;
 mod examples;
+mod files;
 mod random;
 mod refusals;
+mod replay;
 mod rulings;

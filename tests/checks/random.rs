@@ -41,7 +41,9 @@ fn leaks_are_seen() {
         maker.pair(&mut Rng::of_case(12, 1, index), &mut pair);
         if isolation::check(leaky, &pair, &mut a, &mut b).is_err() {
             failed += 1;
-            assert!(isolation::explain(leaky, &pair).contains("images differ at offset 1"));
+            let small = isolation::shrink(leaky, &pair);
+            assert!(isolation::asked(&small));
+            assert!(isolation::describe(leaky, &small).contains("images differ at offset 1"));
         }
     }
     assert!(failed > 5, "{failed}");

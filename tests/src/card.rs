@@ -67,6 +67,11 @@ pub fn commands(card: &[u8]) -> Result<Vec<Command>, Refusal> {
     Ok(list)
 }
 
+/// How many reports these commands write.
+pub fn count_runs(list: &[Command]) -> usize {
+    list.iter().filter(|c| matches!(c, Command::Run { .. })).count()
+}
+
 /// Does one command; a run gives its report.
 fn act(machine: &mut Machine, command: Command) -> Option<Report> {
     match command {
@@ -121,23 +126,36 @@ fn report_holds(report: &[u8], runs: usize) -> Result<(), Refusal> {
     Ok(())
 }
 
+/// Calls on memory that can only be lent go by a copy.
+fn on_copy(memory: &mut [u8], call: impl FnOnce(&mut Vec<u8>) -> u64) -> u64 {
+    let mut copy = memory.to_vec();
+    let answer = call(&mut copy);
+    memory.copy_from_slice(&copy);
+    answer
+}
+
 /// A run, as `tac_run` answers it.
 pub fn run(memory: &mut [u8], image: &mut [u8], allowance: u16, report: &mut [u8]) -> u64 {
+    on_copy(memory, |memory| run_in(memory, image, allowance, report))
+}
+
+/// The same, with memory moved into the machine and back.
+pub fn run_in(memory: &mut Vec<u8>, image: &mut [u8], allowance: u16, report: &mut [u8]) -> u64 {
     let mut go = || {
         image::test(memory, image)?;
         report_holds(report, 1)?;
-        let mut machine = image::read(memory.to_vec(), image);
+        let mut machine = image::read(std::mem::take(memory), image);
         let done = machine.run(allowance);
         report[..REPORT].copy_from_slice(&report_bytes(&done));
-        memory.copy_from_slice(&machine.memory);
         image.copy_from_slice(&image::write(&machine));
+        *memory = machine.memory;
         Ok(REPORT)
     };
     answered(go())
 }
 
 /// Does a tested card's commands; gives the number of report bytes filled.
-pub fn play(machine: &mut Machine, list: &[Command], report: &mut [u8]) -> usize {
+fn play(machine: &mut Machine, list: &[Command], report: &mut [u8]) -> usize {
     let mut filled = 0;
     for &command in list {
         if let Some(done) = act(machine, command) {
@@ -150,15 +168,19 @@ pub fn play(machine: &mut Machine, list: &[Command], report: &mut [u8]) -> usize
 
 /// A bench card, as `tac_card` answers it.
 pub fn card(memory: &mut [u8], image: &mut [u8], card: &[u8], report: &mut [u8]) -> u64 {
+    on_copy(memory, |memory| card_in(memory, image, card, report))
+}
+
+/// The same, with memory moved into the machine and back.
+pub fn card_in(memory: &mut Vec<u8>, image: &mut [u8], card: &[u8], report: &mut [u8]) -> u64 {
     let mut go = || {
         image::test(memory, image)?;
         let list = commands(card)?;
-        let runs = list.iter().filter(|c| matches!(c, Command::Run { .. })).count();
-        report_holds(report, runs)?;
-        let mut machine = image::read(memory.to_vec(), image);
+        report_holds(report, count_runs(&list))?;
+        let mut machine = image::read(std::mem::take(memory), image);
         let filled = play(&mut machine, &list, report);
-        memory.copy_from_slice(&machine.memory);
         image.copy_from_slice(&image::write(&machine));
+        *memory = machine.memory;
         Ok(filled)
     };
     answered(go())

@@ -2,6 +2,7 @@
 //! call that still shows it.
 
 use crate::card;
+use crate::replay;
 use std::fmt::Write;
 use std::ops::Range;
 
@@ -13,15 +14,14 @@ pub type ViewCall = fn(&[u8], &[u8], &mut [u8]) -> u64;
 #[derive(Clone, Copy)]
 pub struct Emulator {
     pub run: RunCall,
-    /// None for a library without `tac_card`.
-    pub card: Option<CardCall>,
+    pub card: CardCall,
     pub view: ViewCall,
 }
 
 /// The emulator of this package.
-pub const OWN: Emulator = Emulator { run: card::run, card: Some(card::card), view: card::view };
+pub const OWN: Emulator = Emulator { run: card::run, card: card::card, view: card::view };
 
-#[derive(Clone, Debug)]
+#[derive(Clone, Debug, PartialEq, Eq)]
 pub enum Call {
     Run(u16),
     View,
@@ -29,7 +29,7 @@ pub enum Call {
 }
 
 /// The buffers as they are before the call.
-#[derive(Clone, Debug)]
+#[derive(Clone, Debug, PartialEq, Eq)]
 pub struct Case {
     pub memory: Vec<u8>,
     pub image: Vec<u8>,
@@ -64,10 +64,7 @@ pub fn perform(emulator: &Emulator, case: &Case, out: &mut Outcome) {
     out.answer = match &case.call {
         Call::Run(allowance) => (emulator.run)(memory, image, *allowance, report),
         Call::View => (emulator.view)(memory, image, report),
-        Call::Card(card) => {
-            let call = emulator.card.expect("cards are made only where both emulators take them");
-            call(memory, image, card, report)
-        }
+        Call::Card(card) => (emulator.card)(memory, image, card, report),
     };
 }
 
@@ -153,7 +150,20 @@ fn cut_card(case: &mut Case, fails: &dyn Fn(&Case) -> bool) {
     }
 }
 
-/// A smaller case that still fails: fewer steps, then zero memory and image.
+/// Zeroes bytes of a card while the case fails.
+fn zero_card(case: &mut Case, fails: &dyn Fn(&Case) -> bool) {
+    let Call::Card(card) = &case.call else { return };
+    let mut card = card.clone();
+    for at in 0..card.len() {
+        let old = std::mem::take(&mut card[at]);
+        if old != 0 && !fails(&Case { call: Call::Card(card.clone()), ..case.clone() }) {
+            card[at] = old;
+        }
+    }
+    case.call = Call::Card(card);
+}
+
+/// A smaller case that still fails: fewer steps, a shorter card and report, then zero bytes.
 pub fn shrink(case: &Case, fails: &dyn Fn(&Case) -> bool) -> Case {
     let mut case = case.clone();
     if let Call::Run(allowance) = case.call {
@@ -166,6 +176,12 @@ pub fn shrink(case: &Case, fails: &dyn Fn(&Case) -> bool) -> Case {
     // Twice, since leaving out one part moves the others.
     cut_card(&mut case, fails);
     cut_card(&mut case, fails);
+    let shorter = |length: u16| Case { report: case.report[..length as usize].to_vec(), ..case.clone() };
+    let least = shorter(smallest(case.report.len() as u16, |length| fails(&shorter(length))));
+    if fails(&least) {
+        case = least;
+    }
+    zero_card(&mut case, fails);
     zero_parts(&mut case, |c| &mut c.memory, fails);
     zero_parts(&mut case, |c| &mut c.image, fails);
     zero_parts(&mut case, |c| &mut c.report, fails);
@@ -179,41 +195,12 @@ pub fn hex(bytes: &[u8]) -> String {
     })
 }
 
-/// The parts of a memory that are not zero, one on a line.
-pub fn ranges(memory: &[u8]) -> String {
-    let mut text = String::new();
-    let mut at = 0;
-    while at < memory.len() {
-        if memory[at] == 0 {
-            at += 1;
-            continue;
-        }
-        let start = at & !1;
-        let mut end = at + 1;
-        while end < memory.len() && end - start < 32 && memory[end..memory.len().min(end + 4)].iter().any(|b| *b != 0) {
-            end += 1;
-        }
-        let _ = writeln!(text, "  {start:04X}: {}", hex(&memory[start..end]));
-        at = end;
-    }
-    text
-}
-
 /// The case, both answers and the first difference, for a reader.
 pub fn describe(case: &Case, own: &Emulator, library: &Emulator) -> String {
     let (mut a, mut b) = (Outcome::default(), Outcome::default());
     perform(own, case, &mut a);
     perform(library, case, &mut b);
-    let call = match &case.call {
-        Call::Run(allowance) => format!("run with allowance {allowance}"),
-        Call::View => "view".to_string(),
-        Call::Card(card) => format!("card of {} bytes: {}", card.len(), hex(card)),
-    };
-    let mut text = format!("call:    {call}\n");
-    let _ = writeln!(text, "memory:  {} bytes, zero but for", case.memory.len());
-    text.push_str(&ranges(&case.memory));
-    let _ = writeln!(text, "image:   {} bytes: {}", case.image.len(), hex(&case.image));
-    let _ = writeln!(text, "report:  {} bytes: {}", case.report.len(), hex(&case.report));
+    let mut text = replay::case_text(case);
     for (name, outcome) in [("this emulator", &a), ("libtac", &b)] {
         let _ = writeln!(text, "{name}:");
         let _ = writeln!(text, "  answer {:#x} (refusal {})", outcome.answer, outcome.answer >> 32);
@@ -221,5 +208,8 @@ pub fn describe(case: &Case, own: &Emulator, library: &Emulator) -> String {
         let _ = writeln!(text, "  report {}", hex(&outcome.report[..outcome.report.len().min(120)]));
     }
     let _ = writeln!(text, "{}", difference(&a, &b).unwrap_or_else(|| "no difference".to_string()));
+    if let Some(card) = replay::as_card(case) {
+        let _ = write!(text, "the case as a card for bench:\n{}", replay::card_lines(&card));
+    }
     text
 }

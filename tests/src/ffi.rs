@@ -12,7 +12,6 @@ mod raw {
             report_len: usize,
         ) -> u64;
 
-        #[cfg(feature = "card")]
         pub fn tac_card(
             memory: *mut u8,
             memory_len: usize,
@@ -51,7 +50,6 @@ pub fn run(memory: &mut [u8], image: &mut [u8], allowance: u16, report: &mut [u8
     }
 }
 
-#[cfg(feature = "card")]
 pub fn card(memory: &mut [u8], image: &mut [u8], card: &[u8], report: &mut [u8]) -> u64 {
     unsafe {
         raw::tac_card(

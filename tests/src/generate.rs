@@ -1,6 +1,6 @@
 //! Random cases: runs, cards, and pairs of memories for demand 3.
 
-use crate::card::{self, Command, LONGEST, REPORT};
+use crate::card::{self, LONGEST, REPORT};
 use crate::case::{Call, Case};
 use crate::emulator::{Machine, E, EXECUTE, FLAG_BITS, I, LINES, MEMORY, P, READ, VALID};
 use crate::image;
@@ -226,7 +226,7 @@ impl Maker {
         }
         let bytes = random_card(rng, &self.machine);
         let runs = match card::commands(&bytes) {
-            Ok(list) => list.iter().filter(|c| matches!(c, Command::Run { .. })).count(),
+            Ok(list) => card::count_runs(&list),
             Err(_) => rng.below(4) as usize,
         };
         let exact = REPORT * runs;
@@ -250,7 +250,7 @@ impl Maker {
         let nasty = rng.pick(&[0, 0, 0, 1, 2, 30]);
         self.user_program(rng, nasty, false);
         self.machine.condition = 0;
-        pair.allowance = rng.between(1, 1500) as u16;
+        pair.allowance = if rng.chance(2) { rng.between(1_500, 65_535) } else { rng.between(1, 1_500) } as u16;
         pair.image = image::write(&self.machine);
         if rng.chance(30) {
             // Secrets everywhere, under the program's data as well.

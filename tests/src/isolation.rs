@@ -1,12 +1,13 @@
 //! Demand 3, checked on two runs.
 
 use crate::card::REPORT;
-use crate::case::{hex, ranges, shrink_parts, smallest, RunCall};
-use crate::emulator::{MEMORY, VALID, WRITE};
+use crate::case::{hex, shrink_parts, smallest, RunCall};
+use crate::emulator::{EXECUTE, I, MEMORY, P, READ, VALID, WRITE};
 use crate::image::{self, IMAGE};
+use crate::replay;
 
 /// Two memories for one image and allowance.
-#[derive(Clone)]
+#[derive(Clone, Debug, PartialEq, Eq)]
 pub struct Pair {
     pub first: Vec<u8>,
     pub second: Vec<u8>,
@@ -109,17 +110,35 @@ fn memories(pair: &Pair, a: &After, b: &After) -> Result<bool, String> {
     Ok(fewer)
 }
 
+/// The frames to which some valid entry of the image's TLB gives one of the rights.
+fn frames_with(image: &[u8; IMAGE], rights: u32) -> [bool; 256] {
+    let mut frames = [false; 256];
+    for bytes in image[image::TLB..].chunks(3) {
+        let entry = u32::from_be_bytes([0, bytes[0], bytes[1], bytes[2]]);
+        if entry & VALID != 0 && entry & rights != 0 {
+            frames[entry as u8 as usize] = true;
+        }
+    }
+    frames
+}
+
+/// What demand 3 asks of a pair: user mode without I/O privilege, MMU on, and memories of 64 KiB that differ only in
+/// frames with neither read nor execute right.
+pub fn asked(pair: &Pair) -> bool {
+    let flag = u16::from_be_bytes([pair.image[image::FLAG], pair.image[image::FLAG + 1]]);
+    let open = frames_with(&pair.image, READ | EXECUTE);
+    let alike = |frame: usize| pair.first[frame * 256..][..256] == pair.second[frame * 256..][..256];
+    image::test(&pair.first, &pair.image).is_ok()
+        && pair.second.len() == MEMORY
+        && flag & (P | I) == 0
+        && pair.image[image::MMU] == 1
+        && (0..256).all(|frame| !open[frame] || alike(frame))
+}
+
 /// Frames without write right are as before, save the four pushed bytes after
 /// an entry. True if another byte changed.
 fn unwritten(pair: &Pair, before: &[u8], after: &After, entered: bool) -> Result<bool, String> {
-    let mut writable = [false; 256];
-    for k in 0..8 {
-        let at = image::TLB + 3 * k;
-        let entry = u32::from_be_bytes([0, pair.image[at], pair.image[at + 1], pair.image[at + 2]]);
-        if entry & VALID != 0 && entry & WRITE != 0 {
-            writable[entry as u8 as usize] = true;
-        }
-    }
+    let writable = frames_with(&pair.image, WRITE);
     let ssp = u16::from_be_bytes([pair.image[image::SSP], pair.image[image::SSP + 1]]);
     let mut stored = false;
     for (frame, &may) in writable.iter().enumerate() {
@@ -140,33 +159,57 @@ fn unwritten(pair: &Pair, before: &[u8], after: &After, entered: bool) -> Result
     Ok(stored)
 }
 
-/// A smaller pair that still fails, and its description.
-pub fn explain(run: RunCall, pair: &Pair) -> String {
+/// A smaller pair that still fails.
+pub fn shrink(run: RunCall, pair: &Pair) -> Pair {
     let (mut a, mut b) = (After::empty(), After::empty());
-    let mut fails = |pair: &Pair| check(run, pair, &mut a, &mut b).err();
+    let mut fails = |pair: &Pair| if asked(pair) { check(run, pair, &mut a, &mut b).err() } else { None };
     let mut pair = pair.clone();
     let least = smallest(pair.allowance, |allowance| fails(&Pair { allowance, ..pair.clone() }).is_some());
     if fails(&Pair { allowance: least, ..pair.clone() }).is_some() {
         pair.allowance = least;
     }
+    // The memories are made equal where they can be, then zero, and the image zero.
+    shrink_parts(MEMORY, |part| {
+        let old = pair.second[part.clone()].to_vec();
+        pair.second[part.clone()].copy_from_slice(&pair.first[part.clone()]);
+        if old != pair.first[part.clone()] && fails(&pair).is_none() {
+            pair.second[part].copy_from_slice(&old);
+        }
+    });
     shrink_parts(MEMORY, |part| {
         let (x, y) = (pair.first[part.clone()].to_vec(), pair.second[part.clone()].to_vec());
-        if x.iter().chain(&y).all(|byte| *byte == 0) {
-            return;
-        }
         pair.first[part.clone()].fill(0);
         pair.second[part.clone()].fill(0);
-        if fails(&pair).is_none() {
+        if x.iter().chain(&y).any(|byte| *byte != 0) && fails(&pair).is_none() {
             pair.first[part.clone()].copy_from_slice(&x);
             pair.second[part].copy_from_slice(&y);
         }
     });
-    format!(
-        "allowance {}\nimage {}\nfirst memory, zero but for\n{}second memory, zero but for\n{}{}\n",
-        pair.allowance,
-        hex(&pair.image),
-        ranges(&pair.first),
-        ranges(&pair.second),
-        fails(&pair).unwrap_or_default()
-    )
+    shrink_parts(IMAGE, |part| {
+        let old = pair.image[part.clone()].to_vec();
+        pair.image[part.clone()].fill(0);
+        if old.iter().any(|byte| *byte != 0) && fails(&pair).is_none() {
+            pair.image[part].copy_from_slice(&old);
+        }
+    });
+    pair
+}
+
+/// The pair, both runs afterwards and what fails, for a reader.
+pub fn describe(run: RunCall, pair: &Pair) -> String {
+    let (mut a, mut b) = (After::empty(), After::empty());
+    let what = match check(run, pair, &mut a, &mut b) {
+        Ok(_) => "demand 3 holds".to_string(),
+        Err(what) => what,
+    };
+    let mut text = replay::pair_text(pair);
+    for (name, after) in [("memory", &a), ("other", &b)] {
+        text += &format!("on {name}:\n  image  {}\n  report {}\n", hex(&after.image), hex(&after.report));
+    }
+    text += &what;
+    text.push('\n');
+    for (name, card) in ["memory", "other"].into_iter().zip(replay::pair_as_cards(pair).into_iter().flatten()) {
+        text += &format!("the run on {name} as a card for bench:\n{}", replay::card_lines(&card));
+    }
+    text
 }

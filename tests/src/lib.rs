@@ -1,6 +1,7 @@
 //! Another emulator of the TaC machine, made from the papers, and the tests
 //! that set it beside the library `libtac.a`.
 
+pub mod assemble;
 pub mod card;
 pub mod case;
 pub mod emulator;
@@ -8,8 +9,10 @@ pub mod generate;
 pub mod image;
 pub mod isolation;
 pub mod program;
+pub mod replay;
 pub mod rng;
 pub mod sample;
+pub mod stored;
 
 #[cfg(feature = "library")]
 pub mod ffi;

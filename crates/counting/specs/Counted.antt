@@ -1,7 +1,7 @@
 -- What a run counts. Document 01, "Faults in order": "A run does at most its allowance of steps, 0 to 65,535, and reports how many it did.
 -- Before the first step and after each it ends if one of these holds, the earlier named winning: halted or lost (also found so, with 0
--- steps), kernel entered by the step just done, allowance spent." The demand: "Run's counted steps equal the number of definition steps to the
--- named ending."
+-- steps), kernel entered by the step just done, allowance spent." "What each place should look like": "Run's counted steps equal the
+-- number of definition steps to the named ending."
 -- Assumes nothing.
 use mathlib.Core.Bool.{Bool, false, true}
 use mathlib.Core.List.{List}

@@ -19,12 +19,14 @@ unfoldable pub entryBytes : List ℕ → List ℕ
 entryBytes [] = []
 entryBytes (e ∷ es) = (e / 65536 % 256) ∷ (e / 256 % 256) ∷ (e % 256) ∷ entryBytes es
 
--- the image of a state
-unfoldable pub imageOf : State → List ℕ
-imageOf st =
-    wordBytes (st .regs)
-    ++ wordBytes (st .ssp ∷ st .usp ∷ st .pc ∷ flagOf st ∷ st .pending ∷ [])
+-- the 18 bytes between the registers and the TLB
+abbrev pub betweenOf : State → List ℕ
+betweenOf st =
+    wordBytes (st .ssp ∷ st .usp ∷ st .pc ∷ flagOf st ∷ st .pending ∷ [])
     ++ (st .input ∷ st .output ∷ boolByte (st .mmu) ∷ conditionNumber (st .condition) ∷ [])
     ++ wordBytes (st .violation ∷ [])
     ++ (st .cause ∷ st .missed ∷ [])
-    ++ entryBytes (st .tlb)
+
+-- the image of a state
+unfoldable pub imageOf : State → List ℕ
+imageOf st = wordBytes (st .regs) ++ betweenOf st ++ entryBytes (st .tlb)

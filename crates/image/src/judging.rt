@@ -1,6 +1,5 @@
 // The tests of memory, image and report.
 ghost use mathlib.Core.Path.{_≡_};
-ghost use Prim.Native.Nat.{_≤_, _+_};
 ghost use lib.ListN.{length};
 ghost use Rattle.image.specs.Decode as fields;
 ghost use Rattle.image.specs.Refusal as def;
@@ -24,37 +23,38 @@ pub fn answer_of(r: Refusal) -> u64
     }
 }
 
-fn flag_good(w: u16) -> bool
+// FLAG within its values.
+pub fn flag_good(w: u16) -> bool
     ensures { λ r. ⌜ r ≡ fields.flagGood w ⌝ }
 {
     (w < 256) & (w / 16 % 2 == 0)
 }
 
-fn pending_good(w: u16) -> bool
+// Pending lines within their values.
+pub fn pending_good(w: u16) -> bool
     ensures { λ r. ⌜ r ≡ fields.pendingGood w ⌝ }
 {
     w < 1024
 }
 
-// Bits 14 and 13 of the entry whose middle byte stands at `at`.
-fn zeros_good(image: &[u8], at: usize) -> bool
-    requires { ⌜ (length (now image) ≡ 68) × (at + 1 ≤ 68) ⌝ }
-    ensures { λ r. ⌜ r ≡ fields.zerosGood (fields.byteFrom (now (image .entry)) at) ⌝ }
+// Bits 14 and 13 of the TLB entry with this middle byte.
+pub fn zeros_good(middle: u8) -> bool
+    ensures { λ r. ⌜ r ≡ fields.zerosGood middle ⌝ }
 {
-    image[at] / 32 % 4 == 0
+    middle / 32 % 4 == 0
 }
 
 fn all_zeros(image: &[u8]) -> bool
     requires { ⌜ length (now image) ≡ 68 ⌝ }
     ensures { λ r. ⌜ r ≡ fields.allZeros (now (image .entry)) 45 8 ⌝ }
 {
-    zeros_good(image, 45)
-        & (zeros_good(image, 48)
-            & (zeros_good(image, 51)
-                & (zeros_good(image, 54)
-                    & (zeros_good(image, 57)
-                        & (zeros_good(image, 60)
-                            & (zeros_good(image, 63) & (zeros_good(image, 66) & true)))))))
+    zeros_good(image[45])
+        & (zeros_good(image[48])
+            & (zeros_good(image[51])
+                & (zeros_good(image[54])
+                    & (zeros_good(image[57])
+                        & (zeros_good(image[60])
+                            & (zeros_good(image[63]) & (zeros_good(image[66]) & true)))))))
 }
 
 fn good_image(image: &[u8]) -> bool

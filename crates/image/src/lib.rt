@@ -6,10 +6,15 @@ mod state_of;
 
 pub use bytes_of::write_image;
 pub use judging::answer_of;
+pub use judging::flag_good;
 pub use judging::judge;
 pub use judging::judge_report;
+pub use judging::pending_good;
+pub use judging::zeros_good;
 pub use report::write_report;
+pub use state_of::entry_from;
 pub use state_of::read_image;
+pub use state_of::word_from;
 
 // Why a call is refused.
 pub enum Refusal {

@@ -6,22 +6,24 @@ ghost use Rattle.image.specs.Decode as def;
 use machine::Condition;
 use machine::State;
 
-pub fn word_from(image: &[u8], at: usize) -> u16
-    requires { ⌜ (length (now image) ≡ 68) × (at + 2 ≤ 68) ⌝ }
-    ensures { λ r. ⌜ r ≡ def.wordFrom (now (image .entry)) at ⌝ }
+// The word at an offset of some bytes, the upper byte first.
+pub fn word_from(bytes: &[u8], at: usize) -> u16
+    requires { ⌜ at + 2 ≤ length (now bytes) ⌝ }
+    ensures { λ r. ⌜ r ≡ def.wordFrom (now (bytes .entry)) at ⌝ }
 {
-    let high = image[at] as u16;
-    let low = image[at + 1] as u16;
+    let high = bytes[at] as u16;
+    let low = bytes[at + 1] as u16;
     high * 256 + low
 }
 
-fn entry_from(image: &[u8], at: usize) -> u32
-    requires { ⌜ (length (now image) ≡ 68) × (at + 3 ≤ 68) ⌝ }
-    ensures { λ r. ⌜ r ≡ def.entryFrom (now (image .entry)) at ⌝ }
+// The TLB entry at an offset of some bytes, the upper byte first.
+pub fn entry_from(bytes: &[u8], at: usize) -> u32
+    requires { ⌜ at + 3 ≤ length (now bytes) ⌝ }
+    ensures { λ r. ⌜ r ≡ def.entryFrom (now (bytes .entry)) at ⌝ }
 {
-    let page = image[at] as u32;
-    let middle = image[at + 1] as u32;
-    let frame = image[at + 2] as u32;
+    let page = bytes[at] as u32;
+    let middle = bytes[at + 1] as u32;
+    let frame = bytes[at + 2] as u32;
     page * 65536 + middle * 256 + frame
 }
 

@@ -1,6 +1,7 @@
 // A run.
 ghost use mathlib.Core.Path.{_≡_};
 ghost use lib.ListN.{length};
+ghost use Rattle.decode.specs.Entry.{tableOf};
 ghost use Rattle.machine.specs.Answers.{statesOf};
 ghost use Rattle.machine.specs.Run as def;
 ghost use Rattle.machine.specs.State.{laid};
@@ -42,13 +43,12 @@ impl State {
         }
     }
 
-    // A run of at most `allowance` steps.
-    pub fn run(self, mem: &mut [u8], allowance: u16) -> Finished
-        requires { ⌜ length (now mem) ≡ 65536 ⌝ }
+    // A run of at most `allowance` steps, with the decoding table lent.
+    pub fn run_with(self, mem: &mut [u8], allowance: u16, table: &[u32; 256]) -> Finished
+        requires { ⌜ (length (now mem) ≡ 65536) × (now table ≡ tableOf) ⌝ }
         ensures answer { λ r. ⌜ r ≡ def.finished (def.runOf allowance self (now (mem .entry))) ⌝ }
         ensures memory { λ r. ⌜ now (mem .exit) ≡ (def.runOf allowance self (now (mem .entry))) .memory ⌝ }
     {
-        let table = decode::entries();
         let mut regs = self.regs;
         let mut tlb = self.tlb;
         let mut state = self.put_back(regs, tlb);
@@ -70,7 +70,7 @@ impl State {
             if steps == allowance {
                 return state.finish_run(regs, tlb, steps, states, Ending::Spent);
             }
-            let stepped = state.advance(&mut regs, &mut tlb, mem, &table);
+            let stepped = state.advance(&mut regs, &mut tlb, mem, table);
             let event = stepped.event;
             steps += 1;
             states += states_of(event) as u32;
@@ -90,5 +90,15 @@ impl State {
                 Event::Lost => {}
             }
         }
+    }
+
+    // A run of at most `allowance` steps.
+    pub fn run(self, mem: &mut [u8], allowance: u16) -> Finished
+        requires { ⌜ length (now mem) ≡ 65536 ⌝ }
+        ensures answer { λ r. ⌜ r ≡ def.finished (def.runOf allowance self (now (mem .entry))) ⌝ }
+        ensures memory { λ r. ⌜ now (mem .exit) ≡ (def.runOf allowance self (now (mem .entry))) .memory ⌝ }
+    {
+        let table = decode::entries();
+        self.run_with(mem, allowance, &table)
     }
 }

@@ -8,6 +8,11 @@ pub either : {A : Type 0} (P : A → Type 0) (b : Bool) {x y : A} → P x → P 
 either P true p q = p
 either P false p q = q
 
+-- where the second may rest on the test's having failed
+pub otherwise : {A : Type 0} (P : A → Type 0) (b : Bool) {x y : A} → P x → (b ≡ false → P y) → P (cond b x y)
+otherwise P true p q = p
+otherwise P false p q = q refl
+
 pub both : (a b : Bool) → a ≡ true → b ≡ true → (a && b) ≡ true
 both a b p q = rw (p, q)
 

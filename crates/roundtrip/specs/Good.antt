@@ -43,10 +43,10 @@ GoodState st = GoodFields (st .regs) (st .pending) (st .cause) (st .tlb)
 -- ---- the image of a good state
 
 -- a state, its registers and TLB spelled out
-abbrev spelledOut : State → State
+abbrev pub spelledOut : State → State
 spelledOut st = laid st (spelled (st .regs) 0 13) (spelled (st .tlb) 0 8)
 
-spelled-out : (st : State) → GoodState st → spelledOut st ≡ st
+pub spelled-out : (st : State) → GoodState st → spelledOut st ≡ st
 spelled-out st g = rw (← (whole (st .regs) 13 (g .thirteen)), ← (whole (st .tlb) 8 (g .entries .eight)))
 
 pub image-long : (st : State) → GoodState st → length (imageOf st) ≡ 68
@@ -56,17 +56,17 @@ image-long st g = subst (λ (s : State). length (imageOf s) ≡ 68) (spelled-out
     long : length (imageOf (spelledOut st)) ≡ 68
     long = refl
 
-bit-small : (t : Bool) → boolByte t < 2
+pub bit-small : (t : Bool) → boolByte t < 2
 bit-small true = omega arith
 bit-small false = omega arith
 
-condition-small : (x : Condition) → conditionNumber x < 3
+pub condition-small : (x : Condition) → conditionNumber x < 3
 condition-small Running = omega arith
 condition-small Halted = omega arith
 condition-small Lost = omega arith
 
 -- a number from its two bytes
-abbrev rejoined : ℕ → ℕ
+abbrev pub rejoined : ℕ → ℕ
 rejoined w = w / 256 % 256 * 256 + w % 256
 
 flag-good : (e p i v c s z : Bool) → flagGood (rejoined (flagWord e p i v c s z)) ≡ true

@@ -1,56 +1,47 @@
 -- A step from a good state leads to a good one: accesses and OUT keep the TLB good, and a fault and an interrupt the cause and the lines.
 -- Assumes nothing.
-use mathlib.Core.Bool.{Bool, cond, false, true, _&&_}
-use mathlib.Core.List.{List, [], _∷_}
+use mathlib.Core.Bool.{Bool, cond, false, _&&_}
+use mathlib.Core.List.{List}
 use mathlib.Core.Logic.{_≢_}
-use mathlib.Core.Path.{_≡_, refl, _∙_}
-use Prim.Native.Nat.{ℕ, suc, zero, _+_, _/_, _%_, _<_}
+use mathlib.Core.Path.{_≡_, _∙_}
+use Prim.Native.Nat.{ℕ, _+_, _/_, _%_, _<_}
 use native.Mathlib.Omega.{arith}
 use borrow.Author.Tests.{eqb-false}
 use lib.Bits.{or-lt}
 use lib.Dec.{eqb, leb, ltb}
 use lib.ListN.{getD, length, length-set, set}
 use Rattle.decode.specs.Code.{ADD, CALL, CMP, HALT, IN, LD, LDFLAG, OUT, POP, PUSH, RET, RETI, SHRL}
-use Rattle.decode.specs.Decode.{firstOf}
-use Rattle.decode.specs.declared.First.{First}
-use Rattle.decode.specs.declared.First.the-variants.{Defined, Undefined}
-use Rattle.decode.specs.declared.Instruction.{Instruction}
-use Rattle.decode.specs.declared.Shape.{Shape}
 use Rattle.machine.specs.Answers.{faultNumber}
 use Rattle.machine.specs.Enter.{Outcome, enterOf}
 use Rattle.machine.specs.Execute.{afterOperation, aluOf, bodyOf, withFlags}
 use Rattle.machine.specs.Flag.{isSet}
-use Rattle.machine.specs.Mmu.{Accessed, byEntry, byTlb, byteAccess, findOf, gives, marked, noted, translates, withBit, wordAccess}
-use Rattle.machine.specs.Memory.{wordAt}
-use Rattle.machine.specs.Plan.{Planned, after, interrupted, permitted, planFetch, planFirst, planOf, planOperand, planSecond, throughAccess, transferOf}
+use Rattle.machine.specs.Mmu.{marked, noted, withBit}
+use Rattle.machine.specs.Plan.{planOf}
 use Rattle.machine.specs.Ports.{afterIn, causeAfter, entryAt, entryWritten, isPagePort, isTlbPort, tlbAfter}
 use Rattle.machine.specs.Register.{regsAfter, spOf, withReg, withSp}
 use Rattle.machine.specs.State.{withCause, withPc, withTlb}
 use Rattle.machine.specs.Step.{commit, stepOf, without}
-use Rattle.machine.specs.declared.Access.{Access}
-use Rattle.machine.specs.declared.Access.the-variants as access
 use Rattle.machine.specs.declared.Fault.{Fault}
 use Rattle.machine.specs.declared.Fault.the-variants.{Missing, Odd, Refused}
-use Rattle.machine.specs.declared.Need.{Need}
-use Rattle.machine.specs.declared.Need.the-variants.{ReadByte, ReadWord, Value, WriteByte, WriteWord}
 use Rattle.machine.specs.declared.Operation.{Operation}
 use Rattle.machine.specs.declared.Plan.{Plan}
 use Rattle.machine.specs.declared.Plan.the-variants.{Interrupt, Perform, Trap, Violation}
 use Rattle.machine.specs.declared.Right.{Right}
 use Rattle.machine.specs.declared.Right.the-variants.{Execute, Read, Write}
 use Rattle.machine.specs.declared.State.{State}
-use Rattle.word.specs.Word.{plus, upper}
-use Rattle.roundtrip.specs.Cases.{either}
+use Rattle.word.specs.Word.{plus}
+use Rattle.roundtrip.specs.Cases.{either, otherwise}
+use Rattle.roundtrip.specs.Each.{each-set}
 use Rattle.roundtrip.specs.Good.{GoodState, GoodTlb, Zeros}
+use Rattle.roundtrip.specs.Plans.{plan-keeps, withMark}
 
 -- ---- an entry
 
 -- a bit set where it carries into none from bit 13 up
 bit-zeros : (e d : ℕ) (t : Bool) → (t ≡ false → (e + d) / 8192 ≡ e / 8192) → Zeros e → Zeros (cond t e (e + d))
-bit-zeros e d true h z = z
-bit-zeros e d false h z = rw (h refl) z
+bit-zeros e d t h z = otherwise Zeros t z (λ f. rw (h f) z)
 
-unset : (n : ℕ) → eqb (n % 2) 1 ≡ false → n % 2 ≡ 0
+pub unset : (n : ℕ) → eqb (n % 2) 1 ≡ false → n % 2 ≡ 0
 unset n h = let other : n % 2 ≢ 1 = eqb-false _ _ h in omega arith
 
 referenced : (e : ℕ) → Zeros e → Zeros (withBit 12 e)
@@ -70,94 +61,23 @@ written-zeros port e v z = either Zeros (isPagePort port) (omega arith) (omega a
 
 -- ---- the TLB
 
-set-zeros : (l : List ℕ) (i v : ℕ) → ((k : ℕ) → Zeros (getD l k 0)) → Zeros v → (k : ℕ) → Zeros (getD (set l i v) k 0)
-set-zeros [] i v h z k = h k
-set-zeros (x ∷ xs) zero v h z zero = z
-set-zeros (x ∷ xs) zero v h z (suc k) = h (suc k)
-set-zeros (x ∷ xs) (suc i) v h z zero = h zero
-set-zeros (x ∷ xs) (suc i) v h z (suc k) = set-zeros xs i v (λ j. h (suc j)) z k
-
 set-good : (tlb : List ℕ) (k v : ℕ) → GoodTlb tlb → Zeros v → GoodTlb (set tlb k v)
-set-good tlb k v g z = record { eight = length-set tlb k v ∙ g .eight; zeros = set-zeros tlb k v (g .zeros) z }
+set-good tlb k v g z = record { eight = length-set tlb k v ∙ g .eight; zeros = each-set Zeros tlb k v (g .zeros) z }
 
-module _ (tlb : List ℕ) (g : GoodTlb tlb) where
-  entry-good : (k : ℕ) (right : Right) (a : ℕ) → GoodTlb ((byEntry tlb k right a) .tlb)
-  unfolding byEntry
-  entry-good k right a =
-      either (λ (x : Accessed). GoodTlb (x .tlb)) (gives right (getD tlb k 0))
-      (set-good tlb k (marked right (getD tlb k 0)) g (marked-zeros right _ (g .zeros k))) g
-
-  byte-good : (on : Bool) (right : Right) (a : ℕ) → GoodTlb ((byteAccess on tlb right a) .tlb)
-  unfolding byteAccess byTlb
-  byte-good true right a =
-      either (λ (x : Accessed). GoodTlb (x .tlb)) (ltb (findOf tlb (upper a)) 8) (entry-good (findOf tlb (upper a)) right a) g
-  byte-good false right a = g
-
-  word-good : (on : Bool) (right : Right) (a : ℕ) → GoodTlb ((wordAccess on tlb right a) .tlb)
-  unfolding wordAccess
-  word-good on right a = either (λ (x : Accessed). GoodTlb (x .tlb)) (eqb (a % 2) 1) g (byte-good on right a)
-
-  transfer-good : (on : Bool) (m : List ℕ) (value : ℕ) (need : Need) → GoodTlb ((transferOf on tlb m value need) .tlb)
-  unfolding transferOf
-  transfer-good on m value (Value v) = g
-  transfer-good on m value (ReadWord a) = word-good on Read a
-  transfer-good on m value (ReadByte a) = byte-good on Read a
-  transfer-good on m value (WriteWord a) = word-good on Write a
-  transfer-good on m value (WriteByte a) = byte-good on Write a
-
-  out-good : (port v : ℕ) → GoodTlb (tlbAfter tlb port v)
-  unfolding tlbAfter
-  out-good port v =
-      either GoodTlb (isTlbPort port)
-      (set-good tlb (entryAt port) _ g (written-zeros port (getD tlb (entryAt port) 0) v (g .zeros (entryAt port)))) g
-
--- ---- a state with some of its fields replaced
+out-good : (tlb : List ℕ) → GoodTlb tlb → (port v : ℕ) → GoodTlb (tlbAfter tlb port v)
+unfolding tlbAfter
+out-good tlb g port v =
+    either GoodTlb (isTlbPort port)
+    (set-good tlb (entryAt port) _ g (written-zeros port (getD tlb (entryAt port) 0) v (g .zeros (entryAt port)))) g
 
 tlb-good : (st : State) (tlb : List ℕ) → GoodState st → GoodTlb tlb → GoodState (withTlb st tlb)
 tlb-good st tlb g t = record { thirteen = g .thirteen; lines = g .lines; causes = g .causes; entries = t }
 
-abbrev GoodPlanned : Planned → Type 0
-GoodPlanned x = GoodState (x .state)
+mark-good : (st : State) (k : ℕ) (right : Right) → GoodState st → GoodState (withMark st k right)
+mark-good st k right g = tlb-good st _ g (set-good (st .tlb) k _ (g .entries) (marked-zeros right _ (g .entries .zeros k)))
 
--- ---- the plan
-
-module _ (m : List ℕ) where
-  operand-good : (st : State) → GoodState st → (ins : Instruction) (following cost : ℕ) → GoodPlanned (planOperand st m ins following cost)
-  unfolding planOperand
-  operand-good st g ins following cost = tlb-good st _ g (transfer-good (st .tlb) (g .entries) (translates st) m _ _)
-
-  through-good :
-      (st : State) → GoodState st → (x : Access) (a : ℕ) (f : ℕ → Planned) → ((at : ℕ) → GoodPlanned (f at))
-      → GoodPlanned (throughAccess x st a f)
-  through-good st g (access.At at) a f h = h at
-  through-good st g (access.Fails fault) a f h = g
-
-  -- after the access that fetches a word
-  fetched-good : (st : State) → GoodState st → (a : ℕ) → GoodState (after st (wordAccess (translates st) (st .tlb) Execute a))
-  fetched-good st g a = tlb-good st _ g (word-good (st .tlb) (g .entries) (translates st) Execute a)
-
-  second-good : (st : State) → GoodState st → (shape : Shape) → GoodPlanned (planSecond st m shape)
-  unfolding planSecond
-  second-good st g shape =
-      let a : ℕ = plus (st .pc) 2 in
-      let x : Accessed = wordAccess (translates st) (st .tlb) Execute a in
-      let s : GoodState (after st x) = fetched-good st g a in
-      either GoodPlanned (shape .second)
-      (through-good (after st x) s (x .access) a _ (λ at. operand-good (after st x) s _ _ _))
-      (operand-good st g _ _ _)
-
-  first-good : (st : State) → GoodState st → (first : First) → GoodPlanned (planFirst first st m)
-  unfolding planFirst
-  first-good st g Undefined = g
-  first-good st g (Defined shape) = either GoodPlanned (permitted st (shape .code)) (second-good st g shape) g
-
-  plan-good : (st : State) → GoodState st → GoodPlanned (planOf st m)
-  unfolding planOf planFetch
-  plan-good st g =
-      let x : Accessed = wordAccess (translates st) (st .tlb) Execute (st .pc) in
-      let s : GoodState (after st x) = fetched-good st g (st .pc) in
-      either GoodPlanned (interrupted st) g
-      (through-good (after st x) s (x .access) (st .pc) _ (λ at. first-good (after st x) s (firstOf (wordAt m at))))
+pub plan-good : (st : State) (m : List ℕ) → GoodState st → GoodState ((planOf st m) .state)
+plan-good st m g = plan-keeps GoodState mark-good m st g
 
 -- ---- the instruction
 
@@ -227,4 +147,4 @@ commit-good (Perform op) st m g = (body (withPc st (op .pc)) g op) .good
 
 pub step-good : (st : State) (m : List ℕ) → GoodState st → GoodState ((stepOf st m) .state)
 unfolding stepOf
-step-good st m g = commit-good ((planOf st m) .plan) ((planOf st m) .state) m (plan-good m st g)
+step-good st m g = commit-good ((planOf st m) .plan) ((planOf st m) .state) m (plan-good st m g)

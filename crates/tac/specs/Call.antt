@@ -1,28 +1,16 @@
--- What an exported call answers and leaves in the lent buffers. Document 01, the table of refusals: "Left as it was: memory, image, report";
--- "A call without card or report skips their tests."
+-- What a run and a view answer and leave in the lent buffers. Document 01, below the table of refusals: "A call without card or
+-- report skips their tests."
 -- Assumes nothing.
 use mathlib.Core.List.{List, _++_}
 use Prim.Native.Nat.{ℕ}
 use lib.ListN.{drop, length}
+use Rattle.image.specs.Call.{Call, unlessRefused}
 use Rattle.image.specs.Decode.{stateFrom}
 use Rattle.image.specs.Image.{imageOf}
-use Rattle.image.specs.Refusal.{answerOf, thenReport, verdictOf}
+use Rattle.image.specs.Refusal.{thenReport, verdictOf}
 use Rattle.image.specs.Report.{reportOfRan}
 use Rattle.image.specs.declared.Verdict.{Verdict}
-use Rattle.image.specs.declared.Verdict.the-variants.{Good, Refused}
 use Rattle.machine.specs.Run.{Ran, runOf}
-
--- the answer, and the buffers after the call
-pub record Call : Type 0 where
-  pub answer : ℕ
-  pub memory : List ℕ
-  pub image : List ℕ
-  pub report : List ℕ
-
--- refused: the buffers are left as they were; else as the second argument says
-abbrev pub unlessRefused : Verdict → List ℕ → List ℕ → List ℕ → Call → Call
-unlessRefused (Refused r) m b rep done = record { answer = answerOf r; memory = m; image = b; report = rep }
-unlessRefused Good m b rep done = done
 
 -- the tests of a run and of a view: refusals 1, 2, 3 and 8
 abbrev pub tested : List ℕ → List ℕ → List ℕ → Verdict

@@ -1,8 +1,9 @@
-// The interface for C: runs and views on buffers that the caller lends.
+// The interface for C: runs, cards and views on buffers that the caller lends.
 ghost use mathlib.Core.List.{_++_};
 ghost use mathlib.Core.Path.{_≡_};
 ghost use Prim.Native.Nat.{_≤_};
 ghost use lib.ListN.{drop, length};
+ghost use Rattle.card.specs.Call.{cardCall};
 ghost use Rattle.image.specs.Decode.{stateFrom};
 ghost use Rattle.image.specs.Image.{imageOf};
 ghost use Rattle.image.specs.Report.{reportOf, reportOfRan};
@@ -67,6 +68,21 @@ pub extern "C" fn tac_run(
             12
         }
     }
+}
+
+#[no_mangle]
+pub extern "C" fn tac_card(
+    memory: &mut [u8],
+    image: &mut [u8],
+    card: &[u8],
+    report: &mut [u8],
+) -> u64
+    ensures answer { λ r. ⌜ r ≡ (cardCall (now (memory .entry)) (now (image .entry)) (now (card .entry)) (now (report .entry))) .answer ⌝ }
+    ensures memory { λ _. ⌜ now (memory .exit) ≡ (cardCall (now (memory .entry)) (now (image .entry)) (now (card .entry)) (now (report .entry))) .memory ⌝ }
+    ensures image { λ _. ⌜ now (image .exit) ≡ (cardCall (now (memory .entry)) (now (image .entry)) (now (card .entry)) (now (report .entry))) .image ⌝ }
+    ensures report { λ _. ⌜ now (report .exit) ≡ (cardCall (now (memory .entry)) (now (image .entry)) (now (card .entry)) (now (report .entry))) .report ⌝ }
+{
+    card::perform(memory, image, card, report)
 }
 
 #[no_mangle]

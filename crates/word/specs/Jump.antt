@@ -19,8 +19,8 @@ abbrev pub flagTest : ℕ → Bool → Bool → Bool → Bool → Bool
 flagTest code v c s z = cond (eqb code 0) z (cond (eqb code 1) c (cond (eqb code 2) s v))
 
 -- "4 not(Z or S≠V), 5 S=V, 6 Z or S≠V, 7 S≠V"
-abbrev pub signedTest : ℕ → Bool → Bool → Bool → Bool → Bool
-signedTest code v c s z =
+abbrev pub signedTest : ℕ → Bool → Bool → Bool → Bool
+signedTest code v s z =
     cond (eqb code 4) (not (z || less v s))
     (cond (eqb code 5) (Bool·beq s v)
     (cond (eqb code 6) (z || less v s)
@@ -34,6 +34,6 @@ conditionOf code v c s z =
     (cond (eqb code 14) (testOf (z || c))
     (cond (eqb code 15) Holds
     (cond (ltb code 4) (testOf (flagTest code v c s z))
-    (cond (ltb code 8) (testOf (signedTest code v c s z))
+    (cond (ltb code 8) (testOf (signedTest code v s z))
     (cond (ltb code 12) (testOf (not (flagTest (code - 8) v c s z)))
     Undefined))))))

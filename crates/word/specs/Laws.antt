@@ -126,7 +126,7 @@ module _ (code : ℕ) (v c s z : Bool) where
   ranged :
       (code < 12) ⊎ (16 ≤ code) → conditionOf code v c s z ≡
       cond (ltb code 4) (testOf (flagTest code v c s z))
-      (cond (ltb code 8) (testOf (signedTest code v c s z))
+      (cond (ltb code 8) (testOf (signedTest code v s z))
       (cond (ltb code 12) (testOf (not (flagTest (code - 8) v c s z)))
       Undefined))
   unfolding conditionOf
@@ -142,7 +142,7 @@ module _ (code : ℕ) (v c s z : Bool) where
   condition-flag h = ranged (inl (omega arith)) ∙ simp (lt-ltb code 4)
 
   pub condition-signed :
-      4 ≤ code → code < 8 → conditionOf code v c s z ≡ testOf (signedTest code v c s z)
+      4 ≤ code → code < 8 → conditionOf code v c s z ≡ testOf (signedTest code v s z)
   condition-signed h k = ranged (inl (omega arith)) ∙ simp (le-ltb code 4, lt-ltb code 8)
 
   pub condition-opposite :
@@ -166,7 +166,7 @@ pub condition-undefined :
 unfolding conditionOf
 condition-undefined code v c s z h e =
     ⊎-elim (λ k. refused (flagTest code v c s z) (condition-flag code v c s z k)) (λ h4.
-    ⊎-elim (λ k. refused (signedTest code v c s z) (condition-signed code v c s z h4 k)) (λ h8.
+    ⊎-elim (λ k. refused (signedTest code v s z) (condition-signed code v c s z h4 k)) (λ h8.
     ⊎-elim (λ k. refused (not (flagTest (code - 8) v c s z)) (condition-opposite code v c s z h8 k)) (λ h12.
     ⊎-elim (λ k. refused (not (z || c)) (at 12 (omega arith))) (λ h13.
     ⊎-elim (λ k. omega arith) (λ h14.

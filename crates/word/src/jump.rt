@@ -29,8 +29,8 @@ fn flag_test(code: u8, v: bool, c: bool, s: bool, z: bool) -> bool
 }
 
 // Conditions 4 to 7: a comparison of signed numbers.
-fn signed_test(code: u8, v: bool, c: bool, s: bool, z: bool) -> bool
-    ensures { λ r. ⌜ r ≡ def.signedTest code v c s z ⌝ }
+fn signed_test(code: u8, v: bool, s: bool, z: bool) -> bool
+    ensures { λ r. ⌜ r ≡ def.signedTest code v s z ⌝ }
 {
     match code {
         4 => !(z | (s != v)),
@@ -50,7 +50,7 @@ pub fn condition(code: u8, v: bool, c: bool, s: bool, z: bool) -> Test
         14 => answer(z | c),
         15 => Test::Holds,
         0..=3 => answer(flag_test(code, v, c, s, z)),
-        4..=7 => answer(signed_test(code, v, c, s, z)),
+        4..=7 => answer(signed_test(code, v, s, z)),
         8..=11 => answer(!flag_test(code - 8, v, c, s, z)),
         _ => Test::Undefined,
     }

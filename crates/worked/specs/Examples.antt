@@ -20,13 +20,13 @@ use Rattle.machine.specs.declared.Event.the-variants.{Halted}
 use Rattle.word.specs.Alu.{addOf, addsOf, andOf, divOf, modOf, mulOf, orOf, shlOf, shraOf, shrlOf, subOf, xorOf}
 use Rattle.word.specs.Jump.{conditionOf}
 use Rattle.word.specs.Signed.{signed4}
-use Rattle.worked.specs.Rows.{Row, Shown, further, starred, stepShown}
+use Rattle.worked.specs.Rows.{Row, Shown, further, rules, starred, stepShown}
 
 abbrev pub expected : Row → Shown
 expected r = r .shows
 
 abbrev pub rows : List Row
-rows = starred ++ further
+rows = starred ++ further ++ rules
 
 -- HALT has the same states in the list of state counts and as an event
 pub halt-states : statesOf Halted ≡ costOf HALT noOperand
@@ -34,5 +34,5 @@ unfolding costOf costSingle
 halt-states = refl
 
 pub examples : map stepShown rows ≡ map expected rows
-unfolding starred further addOf addsOf andOf divOf modOf mulOf orOf shlOf shraOf shrlOf subOf xorOf conditionOf signed4 costOf costSingle fieldsBad firstOf hasSecond operandOf usesRd usesRx eight findModed findSingle modeIn moded opcodeOf row singles enterOf pushed afterOperation aluOf bodyOf eventOf flagWord stored byEntry byTlb byteAccess findFrom findOf wordAccess addressOf endOf interruptIn loadNeed needOf permittedIn planFetch planFirst planOf planOperand planSecond storeNeed transferOf valueStored causeAfter mmuAfter outputAfter portIn tlbAfter tlbPort regIn regsAfter spIn sspAfter sspWith uspAfter uspWith commit stepOf
+unfolding starred further rules addOf addsOf andOf divOf modOf mulOf orOf shlOf shraOf shrlOf subOf xorOf conditionOf signed4 costOf costSingle fieldsBad firstOf hasSecond operandOf usesRd usesRx eight findModed findSingle modeIn moded opcodeOf row singles enterOf pushed afterOperation aluOf bodyOf eventOf flagWord stored byEntry byTlb byteAccess findFrom findOf wordAccess addressOf endOf interruptIn loadNeed needOf permittedIn planFetch planFirst planOf planOperand planSecond storeNeed transferOf valueStored causeAfter mmuAfter outputAfter portIn tlbAfter tlbPort regIn regsAfter spIn sspAfter sspWith uspAfter uspWith commit stepOf
 examples = refl

@@ -106,11 +106,12 @@ stepShown r = shown (stepOf (stateOf r) (r .memory))
 
 -- ---- how the rows are written
 
--- `zeros` zero bytes, then words
+-- words, the upper byte first
 abbrev pub words : List ℕ → List ℕ
 words [] = []
 words (w ∷ ws) = upper w ∷ lower w ∷ words ws
 
+-- `zeros` zero bytes, then words
 abbrev pub at : ℕ → List ℕ → List ℕ
 at zeros ws = replicate zeros 0 ++ words ws
 
@@ -160,6 +161,22 @@ user g1 instruction shows =
       entry = 0x128534;
       memory = at 0x3400 (instruction ∷ []);
       shows = shows;
+    }
+
+-- an instruction of one word that was carried out in user mode at PC 1200h: G0, states, TLB entry 0
+abbrev pub userDone : ℕ → ℕ → ℕ → Shown
+userDone g0 states entry =
+    record {
+      g0 = g0;
+      flag = 0;
+      states = states;
+      pc = 0x1202;
+      number = 0xff;
+      savedPc = 0;
+      savedFlag = 0;
+      cause = 0;
+      violation = 0;
+      entry = entry;
     }
 
 -- an entry from user mode at PC 1200h: number, cause, violation address, TLB entry 0
@@ -218,19 +235,7 @@ starred =
       entry = 0;
     })
     -- "entry 128534h, fetch at 1200h reads 3400h and leaves 129534h": LD G0,7
-    ∷ user 0 0x0d07
-    (record {
-      g0 = 7;
-      flag = 0;
-      states = 4;
-      pc = 0x1202;
-      number = 0xff;
-      savedPc = 0;
-      savedFlag = 0;
-      cause = 0;
-      violation = 0;
-      entry = 0x129534;
-    })
+    ∷ user 0 0x0d07 (userDone 7 4 0x129534)
     -- "a store there faults 11, cause 1": ST G0,[G1]
     ∷ user 0x1210 0x1601 (userFault 11 1 0x1210 0x129534)
     ∷ []
@@ -270,4 +275,27 @@ further =
       memory = [];
       shows = done 0 0x40 3 0;
     }
+    ∷ []
+
+-- Rules that a wrong machine is likely to break.
+unfoldable pub rules : List Row
+rules =
+    -- "each granted write also D", and a read does not: LD G0,[G1] at 1210h
+    user 0x1210 0x0e01 (userDone 0 6 0x129534)
+    -- "The saved PC is ... the following one for SVC"
+    ∷ kernel 0 0 0 (words (0xf000 ∷ []))
+    (record {
+      g0 = 0;
+      flag = 0x40;
+      states = 12;
+      pc = 0;
+      number = 15;
+      savedPc = 2;
+      savedFlag = 0x40;
+      cause = 0;
+      violation = 0;
+      entry = 0;
+    })
+    -- "Shift by n: 8,8,6,8,6,5,7,7 plus n": SHLA 1 by 3
+    ∷ kernel 1 0 0 (words (0x8503 ∷ [])) (done 8 0x40 8 2)
     ∷ []

@@ -1,26 +1,24 @@
 //! Sets libtac.a beside the emulator of this package, byte for byte.
 //!
 //! compare [--factor N] [--seed N] [--part words|runs|cards|pairs] [--verbose 1]
+//! compare --replay FILE
 //!
-//! With `--verbose 1` each case is named before it is tried, for a crash.
+//! With `--verbose 1` each case is named before it is tried, for a crash. `--replay` does the case again that a text
+//! holds; where something differs, the smallest case found is printed as such a text.
 
 use std::process::exit;
 use std::time::Instant;
 use tac_tests::card::REPORT;
 use tac_tests::case::{self, difference, perform, Call, Case, Emulator, Outcome, OWN};
-use tac_tests::emulator::{Machine, FLAG_BITS, I, MEMORY, P};
+use tac_tests::emulator::{Machine, FLAG_BITS, I, P};
 use tac_tests::generate::Maker;
 use tac_tests::isolation::{self, After, Pair};
 use tac_tests::program::Ground;
+use tac_tests::replay::{parse, Replay};
 use tac_tests::rng::Rng;
 use tac_tests::{ffi, image, sample};
 
-#[cfg(feature = "card")]
-const CARD: Option<case::CardCall> = Some(ffi::card);
-#[cfg(not(feature = "card"))]
-const CARD: Option<case::CardCall> = None;
-
-const LIBRARY: Emulator = Emulator { run: ffi::run, card: CARD, view: ffi::view };
+const LIBRARY: Emulator = Emulator { run: ffi::run, card: ffi::card, view: ffi::view };
 
 const ROUNDS: u64 = 2;
 const RUNS: u64 = 300_000;
@@ -32,12 +30,14 @@ struct Arguments {
     seed: u64,
     part: Option<String>,
     verbose: bool,
+    replay: Option<String>,
 }
 
-const USAGE: &str = "usage: compare [--factor N] [--seed N] [--part words|runs|cards|pairs] [--verbose 1]";
+const USAGE: &str = "usage: compare [--factor N] [--seed N] [--part words|runs|cards|pairs] [--verbose 1]
+       compare --replay FILE";
 
 fn arguments() -> Arguments {
-    let mut result = Arguments { factor: 1, seed: 1, part: None, verbose: false };
+    let mut result = Arguments { factor: 1, seed: 1, part: None, verbose: false, replay: None };
     let mut list = std::env::args().skip(1);
     while let Some(name) = list.next() {
         let value = list.next().unwrap_or_default();
@@ -48,6 +48,7 @@ fn arguments() -> Arguments {
             ("--part", Err(_)) if ["words", "runs", "cards", "pairs"].contains(&value.as_str()) => {
                 result.part = Some(value)
             }
+            ("--replay", _) if !value.is_empty() => result.replay = Some(value),
             _ => {
                 eprintln!("{USAGE}");
                 exit(2);
@@ -66,6 +67,8 @@ struct Count {
     entered: [u64; 16],
     steps: u64,
     long: u64,
+    /// Runs whose first step was a fault.
+    at_once: u64,
 }
 
 impl Count {
@@ -75,6 +78,7 @@ impl Count {
         self.endings[report[0] as usize] += 1;
         if report[0] == 1 {
             self.entered[report[1] as usize] += 1;
+            self.at_once += (steps == 1 && report[1] >= 10) as u64;
         }
         self.steps += steps;
         self.long += (steps >= 100) as u64;
@@ -97,7 +101,11 @@ impl Count {
         println!("{name}: {} cases, {:.1} s, all equal", self.cases, start.elapsed().as_secs_f64());
         let [spent, entered, halted, lost] = self.endings;
         println!("  runs {runs}: spent {spent}, entered {entered}, halted {halted}, lost {lost}");
-        println!("  steps: {:.1} a run, {} runs of 100 or more", self.steps as f64 / runs.max(1) as f64, self.long);
+        let average = self.steps as f64 / runs.max(1) as f64;
+        let (steps, long, at_once) = (self.steps, self.long, self.at_once);
+        println!(
+            "  steps {steps}: {average:.1} a run, {long} runs of 100 or more, {at_once} with a fault at the first"
+        );
         let list = |numbers: &[u64]| {
             let named = numbers.iter().enumerate().filter(|(_, n)| **n != 0);
             named.map(|(k, n)| format!("{k}:{n}")).collect::<Vec<_>>().join(" ")
@@ -133,7 +141,7 @@ impl Bench {
             println!("MISMATCH in {}", place());
             println!("as found: {}", difference(&self.own, &self.library).unwrap_or_default());
             let small = case::shrink(case, &|c| case::differ(&OWN, &LIBRARY, c));
-            print!("smallest case found:\n{}", case::describe(&small, &OWN, &LIBRARY));
+            print!("smallest case found, for --replay:\n{}", case::describe(&small, &OWN, &LIBRARY));
             exit(1);
         }
         count.outcome(&self.own);
@@ -223,7 +231,6 @@ fn runs(args: &Arguments) {
     count.print("runs", start);
 }
 
-#[cfg(feature = "card")]
 fn cards(args: &Arguments) {
     let start = Instant::now();
     let (mut bench, mut count) = (Bench::new(args), Count::default());
@@ -234,11 +241,6 @@ fn cards(args: &Arguments) {
         bench.compare(&case, &mut count, &|| format!("cards, case {index}"));
     }
     count.print("cards", start);
-}
-
-#[cfg(not(feature = "card"))]
-fn cards(_: &Arguments) {
-    println!("cards: left out (built without the feature card; {CARDS} cases otherwise)");
 }
 
 /// Demand 3, on the library alone.
@@ -254,7 +256,7 @@ fn pairs(args: &Arguments) {
         if args.verbose {
             eprintln!("pairs, case {index}");
         }
-        assert!(pair.first.len() == MEMORY && pair.first != pair.second);
+        assert!(isolation::asked(&pair) && pair.first != pair.second);
         match isolation::check(ffi::run, &pair, &mut a, &mut b) {
             Ok(seen) => {
                 count.cases += 1;
@@ -265,7 +267,8 @@ fn pairs(args: &Arguments) {
             }
             Err(what) => {
                 println!("DEMAND 3 FAILS in pairs, case {index}: {what}");
-                print!("smallest pair found:\n{}", isolation::explain(ffi::run, &pair));
+                let small = isolation::shrink(ffi::run, &pair);
+                print!("smallest pair found, for --replay:\n{}", isolation::describe(ffi::run, &small));
                 exit(1);
             }
         }
@@ -274,8 +277,33 @@ fn pairs(args: &Arguments) {
     println!("  pairs with different handlers {handlers}, with secrets overwritten {overwrote}, with stores {stored}");
 }
 
+/// Does the case of a text again; true if nothing differs.
+fn replay(name: &str) -> Result<bool, String> {
+    let text = std::fs::read_to_string(name).map_err(|error| format!("{name}: {error}"))?;
+    match parse(&text)? {
+        Replay::Case(case) => {
+            print!("{}", case::describe(&case, &OWN, &LIBRARY));
+            Ok(!case::differ(&OWN, &LIBRARY, &case))
+        }
+        Replay::Pair(pair) if isolation::asked(&pair) => {
+            print!("{}", isolation::describe(ffi::run, &pair));
+            Ok(isolation::check(ffi::run, &pair, &mut After::empty(), &mut After::empty()).is_ok())
+        }
+        Replay::Pair(_) => Err("demand 3 is not about such a pair".to_string()),
+    }
+}
+
 fn main() {
     let args = arguments();
+    if let Some(name) = &args.replay {
+        match replay(name) {
+            Ok(equal) => exit(!equal as i32),
+            Err(what) => {
+                eprintln!("{what}");
+                exit(2);
+            }
+        }
+    }
     println!("compare: seed {}, factor {}", args.seed, args.factor);
     let wanted = |name: &str| args.part.as_deref().is_none_or(|part| part == name);
     type Part = (&'static str, fn(&Arguments));

@@ -5,7 +5,7 @@ use mathlib.Core.Path.{ap, _∙_, _≡_}
 use Prim.Native.Nat.{ℕ}
 use lib.ListN.{drop, length}
 use borrow.Author.Needs.{needs}
-use Rattle.image.proofs.Spelled.{copied}
+use Rattle.image.proofs.Parts.{copied}
 use Rattle.image.proofs.report.write_report.Statement.{statement}
 use Rattle.image.proofs.report.write_report.Tie as tie
 

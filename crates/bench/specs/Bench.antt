@@ -1,0 +1,23 @@
+-- What the program prints for a card. Document 01: "The program `bench` reads a card from standard input into zero memory, the image zero but
+-- FLAG 0040h."
+-- Assumes nothing.
+use mathlib.Core.List.{List}
+use Prim.Native.Nat.{ℕ}
+use lib.ListN.{replicate, set}
+use Rattle.card.specs.Call.{cardCall, filledPart}
+use Rattle.listing.specs.Listing.{listingOf}
+
+abbrev pub zeroMemory : List ℕ
+zeroMemory = replicate 65536 0
+
+-- the lower byte of FLAG stands at offset 33
+abbrev pub firstImage : List ℕ
+firstImage = set (replicate 68 0) 33 64
+
+-- room for the reports of the most runs that a card can have, 1,365
+abbrev pub zeroReport : List ℕ
+zeroReport = replicate 16380 0
+
+unfoldable pub benchOf : List ℕ → List ℕ
+benchOf card =
+    listingOf ((cardCall zeroMemory firstImage card zeroReport) .answer) (filledPart zeroMemory firstImage card zeroReport)

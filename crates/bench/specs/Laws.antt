@@ -1,0 +1,71 @@
+-- A listing of the program is never cut, and the program refuses a card for what the card itself has.
+-- Assumes nothing.
+use mathlib.Core.Bool.{Bool, true}
+use mathlib.Core.List.{List, append-nil, _++_}
+use mathlib.Core.Path.{ap, refl, sym, _∙_, _≡_}
+use Prim.Native.Nat.{min, ℕ, _*_, _/_, _≤_}
+use native.Mathlib.Nat.{min-eq-left}
+use native.Mathlib.Omega.{arith}
+use borrow.Author.Tests.{le-leb}
+use lib.Dec.{leb}
+use lib.ListN.{drop, length, length-replicate, take}
+use lib.Seq.{take-all, take-at}
+use Rattle.card.specs.Call.{cardCall, filledPart}
+use Rattle.card.specs.Card.{readingOf, runsIn, testedOf, thenCard}
+use Rattle.card.specs.Laws.{part-short, runs-bound}
+use Rattle.image.specs.Decode.{allZeros, flagGood, goodImage, pendingGood, zerosGood}
+use Rattle.image.specs.Refusal.{thenReport, verdictOf}
+use Rattle.image.specs.declared.Verdict.{Verdict}
+use Rattle.image.specs.declared.Verdict.the-variants.{Good, Refused}
+use Rattle.listing.specs.Laws.{listing-bound}
+use Rattle.listing.specs.Listing.{listingOf, over}
+use Rattle.bench.specs.Bench.{benchOf, firstImage, zeroMemory, zeroReport}
+
+-- a listing fits a text of 65,536 bytes
+pub bench-short : (card : List ℕ) → length (benchOf card) ≤ 65536
+unfolding benchOf
+bench-short card =
+    let part : List ℕ = filledPart zeroMemory firstImage card zeroReport in
+    let answer : ℕ = (cardCall zeroMemory firstImage card zeroReport) .answer in
+    let short : length part ≤ 16380 = part-short zeroMemory firstImage card zeroReport in
+    omega (arith, listing-bound answer part, short)
+
+-- what is written to such a text is the whole listing
+module _ (card before after : List ℕ) (answer count : ℕ) (part : List ℕ) (room : 65536 ≤ length before)
+    (a : answer ≡ (cardCall zeroMemory firstImage card zeroReport) .answer) (p : part ≡ filledPart zeroMemory firstImage card zeroReport)
+    (c : count ≡ min (length (listingOf answer part)) (length before)) (w : after ≡ over before (listingOf answer part)) where
+  listing-is : listingOf answer part ≡ benchOf card
+  unfolding benchOf
+  listing-is = ap (λ (n : ℕ). listingOf n part) a ∙ ap (listingOf ((cardCall zeroMemory firstImage card zeroReport) .answer)) p
+
+  pub count-is : count ≡ length (benchOf card)
+  count-is =
+      c
+      ∙ ap (λ (bytes : List ℕ). min (length bytes) (length before)) listing-is
+      ∙ min-eq-left (omega (arith, bench-short card))
+
+  after-is : after ≡ benchOf card ++ drop (length (benchOf card)) before
+  after-is =
+      w
+      ∙ ap (over before) listing-is
+      ∙ ap (λ (bytes : List ℕ). bytes ++ drop (length (benchOf card)) before) (take-all (length before) (benchOf card) (omega (arith, bench-short card)))
+
+  pub text-is : take count after ≡ benchOf card
+  text-is = ap (take count) after-is ∙ take-at (benchOf card) (drop (length (benchOf card)) before) count (sym count-is)
+
+first-good : (long : ℕ) → long ≡ 65536 → verdictOf long firstImage ≡ Good
+unfolding verdictOf goodImage flagGood pendingGood allZeros zerosGood
+first-good long e = rw e refl
+
+report-enough : (v : Verdict) (needed long : ℕ) → needed ≤ long → thenReport v long needed ≡ v
+report-enough (Refused r) needed long h = refl
+report-enough Good needed long h = rw (le-leb needed long h) refl
+
+-- memory, image and report are good, so a card is refused only for itself
+pub bench-tested : (card : List ℕ) → testedOf (length zeroMemory) firstImage card (length zeroReport) ≡ (readingOf card) .verdict
+unfolding testedOf
+bench-tested card =
+    ap (λ (v : Verdict). thenReport (thenCard v ((readingOf card) .verdict)) (length zeroReport) (12 * runsIn ((readingOf card) .commands)))
+    (first-good (length zeroMemory) (length-replicate {A = ℕ} 65536 0))
+    ∙ report-enough ((readingOf card) .verdict) (12 * runsIn ((readingOf card) .commands)) (length zeroReport)
+    (omega (arith, length-replicate {A = ℕ} 16380 0, runs-bound card))

@@ -1,0 +1,34 @@
+// Runs a bench card: reads it from standard input and writes its listing to standard output.
+ghost use mathlib.Core.Path.{_≡_};
+ghost use Prim.Native.Nat.{_≤_};
+ghost use lib.ListN.{length, take};
+ghost use Rattle.bench.specs.Bench.{benchOf};
+
+// The listing of a card on zero memory and an image that is zero but FLAG 0040h.
+fn listed(card: &[u8], text: &mut [u8]) -> usize
+    requires { ⌜ 65536 ≤ length (now text) ⌝ }
+    ensures count { λ r. ⌜ r ≡ length (benchOf (now (card .entry))) ⌝ }
+    ensures text { λ r. ⌜ take r (now (text .exit)) ≡ benchOf (now (card .entry)) ⌝ }
+    ensures bound { λ r. ⌜ r ≤ 65536 ⌝ }
+{
+    let mut memory = [0u8; 65536];
+    let mut image = [0u8; 68];
+    image[33] = 64;
+    let mut report = [0u8; 16380];
+    let mut answer = 0;
+    let filled = card::run_card(&mut memory, &mut image, card, &mut report, &mut answer);
+    listing::write_listing(answer, filled, text)
+}
+
+// A card has at most 4,096 bytes; one more is enough to refuse it.
+fn main() {
+    let mut card = [0u8; 4097];
+    let input = input::read_input(&mut card);
+    if !input.complete {
+        return;
+    }
+    let count = input.count;
+    let mut text = [0u8; 65536];
+    let written = listed(&card[..count], &mut text);
+    io::write_all(libc::STDOUT_FILENO, &text[..written]);
+}

@@ -1,0 +1,3 @@
+pub mod Operands
+pub mod Tested
+pub mod Turns

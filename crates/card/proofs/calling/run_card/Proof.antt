@@ -1,0 +1,35 @@
+-- `card::calling::run_card` meets its contract.
+-- Assumes nothing.
+use borrow.Author.Needs.{needs}
+use Rattle.card.specs.Laws.{part-holds, part-long}
+use Rattle.card.proofs.calling.run_card.Statement.{statement}
+use Rattle.card.proofs.calling.run_card.Tie as tie
+
+perform-requires : tie.Need-perform-requires
+perform-requires c κs = search needs
+
+filled-by-requires : tie.Need-filled-by-requires
+filled-by-requires c κs = search needs
+
+slice-aggregate-result : tie.Need-slice-aggregate-result
+slice-aggregate-result c = part-long (c .before .before .before .before .before .before .before .before .before .before .before .before .before .before .before .before .args .memory .now) (c .before .before .before .before .before .before .before .before .before .before .before .before .before .before .before .before .args .image .now) (c .before .before .before .before .before .before .before .before .before .before .before .before .before .before .before .before .args .card .now) (c .before .before .before .before .before .before .before .before .before .before .before .before .before .before .before .before .args .report .now) (c .before .before .before .before .before .before .before .before .perform .last .1 .1 .1 .0) (c .before .filled-by .result) (c .before .before .before .before .before .before .before .before .perform .result) (c .before .filled-by .ensures) (c .before .before .before .before .before .before .before .before .perform .ensures .0) (c .before .before .before .before .before .before .before .before .perform .ensures .1 .1 .1)
+
+same-length : tie.Need-same-length
+same-length c = search needs
+
+same-length-2 : tie.Need-same-length-2
+same-length-2 c = search needs
+
+returns : tie.Need-returns
+returns c = (part-holds (c .before .before .before .before .before .before .before .before .before .before .before .before .before .before .before .before .args .memory .now) (c .before .before .before .before .before .before .before .before .before .before .before .before .before .before .before .before .args .image .now) (c .before .before .before .before .before .before .before .before .before .before .before .before .before .before .before .before .args .card .now) (c .before .before .before .before .before .before .before .before .before .before .before .before .before .before .before .before .args .report .now) (c .before .before .before .before .before .before .before .before .perform .last .1 .1 .1 .0) (c .before .filled-by .result) (c .before .before .before .before .before .before .before .before .perform .result) (c .before .filled-by .ensures) (c .before .before .before .before .before .before .before .before .perform .ensures .0) (c .before .before .before .before .before .before .before .before .perform .ensures .1 .1 .1), (c .before .before .before .before .before .before .before .before .perform .ensures .0, (c .before .before .before .before .before .before .before .before .perform .ensures .1 .0, c .before .before .before .before .before .before .before .before .perform .ensures .1 .1 .0)))
+
+pub run-card-spec : {M : Type 1} → statement M
+run-card-spec =
+    tie.close
+    (tie.spec
+    perform-requires
+    filled-by-requires
+    slice-aggregate-result
+    same-length
+    same-length-2
+    returns)

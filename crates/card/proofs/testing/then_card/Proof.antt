@@ -1,0 +1,20 @@
+-- `card::testing::then_card` meets its contract.
+-- Assumes nothing.
+use borrow.Author.Needs.{needs}
+use Rattle.card.proofs.testing.then_card.Statement.{statement}
+use Rattle.card.proofs.testing.then_card.Tie as tie
+
+enum-known-first : tie.Need-enum-known-first
+enum-known-first c = search needs
+
+enum-told : tie.Need-enum-told
+enum-told c = search needs
+
+returns : tie.Need-returns
+returns c = rw (c .before .first .given .1)
+
+returns-2 : tie.Need-returns-2
+returns-2 c = rw (c .enum-told .given .1)
+
+pub then-card-spec : {M : Type 1} → statement M
+then-card-spec = tie.close (tie.spec enum-known-first enum-told returns returns-2)

@@ -1,0 +1,51 @@
+// Bench cards: their commands, their tests, and what they do.
+mod acting;
+mod calling;
+mod parsing;
+mod testing;
+
+pub use calling::perform;
+pub use calling::run_card;
+use image::Refusal;
+use image::Verdict;
+use machine::State;
+
+// A command of a card, with its operands.
+pub enum Command {
+    // 01: a byte stored at a physical address.
+    Byte(u16, u8),
+    // 02: a register by its number, and its value.
+    Register(u8, u16),
+    // 03: lines added to those pending, and the input byte.
+    Lines(u16, u8),
+    // 04: a run of this allowance.
+    Run(u16),
+    // 05: a TLB entry by its number, and its bits.
+    Entry(u8, u32),
+    // 06: the MMU switched.
+    Mmu(bool),
+    // 07: FLAG.
+    Flag(u16),
+}
+
+// What stands at a position of a card.
+pub enum Parsed {
+    // Nothing: the card ends there.
+    End,
+    // A command, and the position of the next.
+    Next(Command, usize),
+    // A bad command, with its place.
+    Bad(Refusal),
+}
+
+// The tests of a card by itself, and the number of its runs.
+pub struct Counted {
+    pub verdict: Verdict,
+    pub runs: usize,
+}
+
+// The state after some commands, and how many report bytes are filled.
+pub struct Acted {
+    pub state: State,
+    pub filled: usize,
+}

@@ -1,0 +1,75 @@
+-- Two good cards handed in one after the other do what they do as one card, the second's bytes behind the first's, as long as the two
+-- together are a good card; the reports stand one behind the other.
+-- Assumes nothing.
+use mathlib.Core.Bool.{true}
+use mathlib.Core.List.{List, _++_}
+use mathlib.Core.Path.{_≡_}
+use Prim.Native.Nat.{ℕ, _+_, _≤_}
+use lib.ListN.{drop, length, take}
+use Rattle.card.specs.Call.{cardCall}
+use Rattle.card.specs.Card.{readingOf, testedOf}
+use Rattle.image.specs.Call.{Call}
+use Rattle.image.specs.Decode.{goodImage}
+use Rattle.image.specs.declared.Verdict.the-variants.{Good}
+use Rattle.roundtrip.specs.Ranged.{Bytes}
+
+-- ---- the law, for a memory, an image, two cards and a report
+
+module _ (m b a c rep : List ℕ) where
+  -- the first card's call
+  abbrev pub firstCall : Call
+  firstCall = cardCall m b a rep
+
+  -- the second card's call is handed the memory and the image that the first left, and the report behind the bytes that the first filled
+  abbrev pub memoryLeft : List ℕ
+  memoryLeft = firstCall .memory
+
+  abbrev pub imageLeft : List ℕ
+  imageLeft = firstCall .image
+
+  abbrev pub reportLeft : List ℕ
+  reportLeft = drop (firstCall .answer) (firstCall .report)
+
+  abbrev pub secondCall : Call
+  secondCall = cardCall memoryLeft imageLeft c reportLeft
+
+  -- the call of both as one card
+  abbrev pub jointCall : Call
+  jointCall = cardCall m b (a ++ c) rep
+
+  -- Memory, image and first card are of bytes, the first card is good, and the joint call passes all its tests: memory, image, the joined
+  -- card and room for the reports of both. That the second card is good follows.
+  pub record Given : Type 0 where
+    pub memoryBytes : Bytes m
+    pub imageBytes : Bytes b
+    pub cardBytes : Bytes a
+    pub firstCard : (readingOf a) .verdict ≡ Good
+    pub jointGood : testedOf (length m) b (a ++ c) (length rep) ≡ Good
+
+  -- then
+  pub record AsOne : Type 0 where
+    -- neither call is refused
+    pub firstGood : testedOf (length m) b a (length rep) ≡ Good
+    pub secondGood : testedOf (length memoryLeft) imageLeft c (length reportLeft) ≡ Good
+    -- the second call leaves the memory and the image that the joint one does
+    pub memory : jointCall .memory ≡ secondCall .memory
+    pub image : jointCall .image ≡ secondCall .image
+    -- the joint call fills as many report bytes as the two, with the first's reports and the second's behind them
+    pub answer : jointCall .answer ≡ firstCall .answer + secondCall .answer
+    pub report : jointCall .report ≡ take (firstCall .answer) (firstCall .report) ++ secondCall .report
+
+  -- The joint call passes its tests wherever the two calls pass theirs and the cards are together no longer than one may be.
+  pub record Apart : Type 0 where
+    pub firstGood : testedOf (length m) b a (length rep) ≡ Good
+    pub secondGood : testedOf (length memoryLeft) imageLeft c (length reportLeft) ≡ Good
+    pub short : length (a ++ c) ≤ 4096
+
+-- ---- what a card leaves
+
+-- of a call with memory `m`: a memory of bytes as long as that, and an image of bytes that is good
+pub record Left (m : List ℕ) (call : Call) : Type 0 where
+  pub memoryBytes : Bytes (call .memory)
+  pub memoryLong : length (call .memory) ≡ length m
+  pub imageBytes : Bytes (call .image)
+  pub imageLong : length (call .image) ≡ 68
+  pub imageGood : goodImage (call .image) ≡ true

@@ -1,0 +1,151 @@
+-- Two cards handed in one after the other do what they do as one card.
+-- Assumes nothing.
+use mathlib.Core.List.{List, append-assoc, _++_}
+use mathlib.Core.Path.{ap, _∙_, _≡_}
+use Prim.Native.Nat.{ℕ, _*_, _+_, _≤_}
+use native.Mathlib.Omega.{arith}
+use lib.ListN.{drop, length, length-drop}
+use lib.Seq.{drop-at, drop-drop, take-at}
+use Rattle.card.specs.Call.{playedCall}
+use Rattle.card.specs.Card.{readingOf, runsIn, testedOf}
+use Rattle.card.specs.Laws.{all-reports-long}
+use Rattle.card.specs.Play.{Played, playOf}
+use Rattle.card.specs.declared.Command.{Command}
+use Rattle.image.specs.Call.{Call}
+use Rattle.image.specs.Decode.{stateFrom}
+use Rattle.image.specs.declared.Verdict.the-variants.{Good}
+use Rattle.roundtrip.specs.Ranged.{decoded}
+use Rattle.joined.specs.Calls.{Passed, call-is, call-keeps, card-leaves, cardPlayed, passed, passes}
+use Rattle.joined.specs.Keeps.{Kept}
+use Rattle.joined.specs.Playing.{onward, play-both, runs-both}
+use Rattle.joined.specs.Reading.{commands-joined, joined-good, second-good}
+use Rattle.joined.specs.Statement.{Apart, AsOne, Given, Left, firstCall, imageLeft, jointCall, memoryLeft, reportLeft, secondCall}
+
+-- ---- both cards' commands
+
+abbrev commands : List ℕ → List Command
+commands card = (readingOf card) .commands
+
+all-runs :
+    (a c : List ℕ) → (readingOf a) .verdict ≡ Good → (readingOf (a ++ c)) .verdict ≡ Good
+    → runsIn (commands (a ++ c)) ≡ runsIn (commands a) + runsIn (commands c)
+all-runs a c g h = ap runsIn (commands-joined a c g h) ∙ runs-both (commands a) (commands c)
+
+module _ (m b a c rep : List ℕ) where
+  -- what the first card does, and then the second
+  abbrev one : Played
+  one = cardPlayed m b a
+
+  abbrev two : Played
+  two = playOf (commands c) (one .state) (one .memory)
+
+  -- ---- the first call
+
+  -- the report bytes that it fills
+  abbrev filled : ℕ
+  filled = 12 * runsIn (commands a)
+
+  module _ (good : testedOf (length m) b a (length rep) ≡ Good) where
+    first-is : firstCall m b a c rep ≡ playedCall filled one rep
+    first-is = call-is m b a rep good
+
+    memory-is : memoryLeft m b a c rep ≡ one .memory
+    memory-is = ap (λ (x : Call). x .memory) first-is
+
+    rest-is : reportLeft m b a c rep ≡ drop filled rep
+    rest-is =
+        ap (λ (x : Call). drop (x .answer) (x .report)) first-is
+        ∙ drop-at (one .reports) (drop filled rep) filled (all-reports-long (commands a) (stateFrom b) m)
+
+  -- ---- both calls pass their tests: so does the joint one
+
+  pub joint-good : Apart m b a c rep → testedOf (length m) b (a ++ c) (length rep) ≡ Good
+  joint-good x =
+      let p : Passed (length m) b a (length rep) = passed (length m) b a (length rep) (x .firstGood) in
+      let q : Passed _ _ c (length (reportLeft m b a c rep)) = passed _ _ c (length (reportLeft m b a c rep)) (x .secondGood) in
+      let left : 12 * runsIn (commands c) ≤ length (drop filled rep) = rw (rest-is (x .firstGood)) at (q .room) in
+      let card : (readingOf (a ++ c)) .verdict ≡ Good = joined-good a c (p .cardGood) (q .cardGood) (x .short) in
+      passes (length m) b (a ++ c) (length rep)
+      (record {
+        memory = p .memory;
+        image = p .image;
+        fields = p .fields;
+        cardGood = card;
+        room = omega (arith, all-runs a c (p .cardGood) card, length-drop filled rep);
+      })
+
+  -- ---- the joint call passes its tests, and the first card is good
+
+  module _ (given : Given m b a c rep) where
+    joint : Passed (length m) b (a ++ c) (length rep)
+    joint = passed (length m) b (a ++ c) (length rep) (given .jointGood)
+
+    runs : runsIn (commands (a ++ c)) ≡ runsIn (commands a) + runsIn (commands c)
+    runs = all-runs a c (given .firstCard) (joint .cardGood)
+
+    first-passes : testedOf (length m) b a (length rep) ≡ Good
+    first-passes =
+        passes (length m) b a (length rep)
+        (record {
+          memory = joint .memory;
+          image = joint .image;
+          fields = joint .fields;
+          cardGood = given .firstCard;
+          room = omega (arith, joint .room, runs);
+        })
+
+    -- the state between the cards comes back out of its image
+    between : stateFrom (imageLeft m b a c rep) ≡ one .state
+    between =
+        let k : Kept (length m) (one .state) (one .memory) =
+        call-keeps m b a rep first-passes (given .memoryBytes) (given .imageBytes) (given .cardBytes) in
+        ap (λ (x : Call). stateFrom (x .image)) (first-is first-passes) ∙ decoded (one .state) (k .sound .good) (k .sound .ranged)
+
+    left : Left m (firstCall m b a c rep)
+    left = card-leaves m b a rep first-passes (given .memoryBytes) (given .imageBytes) (given .cardBytes)
+
+    second-passes : testedOf (length (memoryLeft m b a c rep)) (imageLeft m b a c rep) c (length (reportLeft m b a c rep)) ≡ Good
+    second-passes =
+        passes _ _ c (length (reportLeft m b a c rep))
+        (record {
+          memory = left .memoryLong ∙ joint .memory;
+          image = left .imageLong;
+          fields = left .imageGood;
+          cardGood = second-good a c (given .firstCard) (joint .cardGood);
+          room = rw (rest-is first-passes) (omega (arith, joint .room, runs, length-drop filled rep));
+        })
+
+    second-is : secondCall m b a c rep ≡ playedCall (12 * runsIn (commands c)) two (drop filled rep)
+    second-is =
+        call-is (memoryLeft m b a c rep) (imageLeft m b a c rep) c (reportLeft m b a c rep) second-passes
+        ∙ rw (rest-is first-passes, between, memory-is first-passes)
+
+    joint-is : jointCall m b a c rep ≡ playedCall (filled + 12 * runsIn (commands c)) (onward (commands c) one) rep
+    joint-is =
+        let all : 12 * runsIn (commands (a ++ c)) ≡ filled + 12 * runsIn (commands c) = omega (arith, runs) in
+        call-is m b (a ++ c) rep (given .jointGood)
+        ∙ rw (all, commands-joined a c (given .firstCard) (joint .cardGood), play-both (commands a) (commands c) (stateFrom b) m)
+
+    -- the two calls do what the joint one does
+    pub as-one : AsOne m b a c rep
+    as-one =
+        let f : firstCall m b a c rep ≡ playedCall filled one rep = first-is first-passes in
+        let n : (firstCall m b a c rep) .answer ≡ filled = ap (λ (x : Call). x .answer) f in
+        let k : (secondCall m b a c rep) .answer ≡ 12 * runsIn (commands c) = ap (λ (x : Call). x .answer) second-is in
+        let all : (jointCall m b a c rep) .answer ≡ filled + 12 * runsIn (commands c) = ap (λ (x : Call). x .answer) joint-is in
+        record {
+          firstGood = first-passes;
+          secondGood = second-passes;
+          memory = rw (joint-is, second-is);
+          image = rw (joint-is, second-is);
+          answer = omega arith;
+          report =
+              rw (
+                joint-is,
+                second-is,
+                f,
+                take-at (one .reports) (drop filled rep) filled (all-reports-long (commands a) (stateFrom b) m),
+                drop-drop (12 * runsIn (commands c)) filled rep,
+                append-assoc,
+              );
+        }

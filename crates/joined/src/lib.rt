@@ -1,0 +1,1 @@
+// Two cards handed in one after the other: theorems about the definitions of `card`, no functions.

@@ -1,0 +1,61 @@
+-- What is written piece by piece is written as one.
+-- Assumes nothing.
+use mathlib.Core.List.{List, [], _++_, _∷_}
+use mathlib.Core.Path.{ap, refl, sym, _∙_, _≡_}
+use Prim.Native.Nat.{min, suc, zero-le, ℕ, _+_, _≤_}
+use native.Mathlib.Nat.{add-zero}
+use native.Mathlib.Omega.{arith, min-cases}
+use lib.ListN.{length, length-append, set}
+use lib.Seq.{drop-nil, length-sets, set-out, sets}
+use Rattle.listing.specs.Listing.{over}
+use Rattle.listing.specs.Written.{Wrote}
+
+sets-append : (t : List ℕ) (i : ℕ) (xs ys : List ℕ) → sets t i (xs ++ ys) ≡ sets (sets t i xs) (i + length xs) ys
+sets-append t i [] ys = rw add-zero
+sets-append t i (x ∷ xs) ys =
+    sets-append (set t i x) (suc i) xs ys
+    ∙ ap (λ (k : ℕ). sets (sets (set t i x) (suc i) xs) k ys) (omega arith)
+
+sets-out : (t : List ℕ) (i : ℕ) (xs : List ℕ) → length t ≤ i → sets t i xs ≡ t
+sets-out t i [] h = refl
+sets-out t i (x ∷ xs) h = rw (set-out t i x h) (sets-out t (suc i) xs (omega arith))
+
+-- beyond the end nothing is written
+sets-min : (t : List ℕ) (i : ℕ) (xs : List ℕ) → sets t (min i (length t)) xs ≡ sets t i xs
+sets-min t i xs =
+    min-cases i (length t) (sets t (min i (length t)) xs ≡ sets t i xs)
+    (λ h e. rw e)
+    (λ h e. rw e (sets-out t (length t) xs (omega arith) ∙ sym (sets-out t i xs h)))
+
+sets-cons : (a : ℕ) (t : List ℕ) (i : ℕ) (xs : List ℕ) → sets (a ∷ t) (suc i) xs ≡ a ∷ sets t i xs
+sets-cons a t i [] = refl
+sets-cons a t i (x ∷ xs) = sets-cons a (set t i x) (suc i) xs
+
+sets-over : (t xs : List ℕ) → sets t 0 xs ≡ over t xs
+sets-over [] xs = sets-out [] 0 xs zero-le ∙ sym (drop-nil (length xs))
+sets-over (a ∷ t) [] = refl
+sets-over (a ∷ t) (x ∷ xs) = sets-cons x t 0 xs ∙ ap (λ (l : List ℕ). x ∷ l) (sets-over t xs)
+
+module _ {t₀ t₁ : List ℕ} {at₀ at₁ : ℕ} {xs : List ℕ} (w : Wrote t₀ t₁ at₀ at₁ xs) where
+  pub same-room : length t₁ ≡ length t₀
+  same-room = ap length (w .text) ∙ length-sets t₀ at₀ xs
+
+  pub then : {t₂ : List ℕ} {at₂ : ℕ} {ys : List ℕ} → Wrote t₁ t₂ at₁ at₂ ys → Wrote t₀ t₂ at₀ at₂ (xs ++ ys)
+  then {t₂} {at₂} {ys} v =
+      record {
+        text =
+            v .text
+            ∙ ap (λ (k : ℕ). sets t₁ k ys) (w .cursor ∙ ap (λ (n : ℕ). min (at₀ + length xs) n) (sym same-room))
+            ∙ sets-min t₁ (at₀ + length xs) ys
+            ∙ ap (λ (t : List ℕ). sets t (at₀ + length xs) ys) (w .text)
+            ∙ sym (sets-append t₀ at₀ xs ys);
+        cursor = omega (arith, same-room, length-append xs ys);
+      }
+
+-- a cursor that is within the buffer
+pub nothing : (t : List ℕ) (at : ℕ) → at ≤ length t → Wrote t t at at []
+nothing t at h = record { text = refl; cursor = omega arith }
+
+-- what is written from the start
+pub whole : {t₀ t₁ : List ℕ} {at : ℕ} {xs : List ℕ} → Wrote t₀ t₁ 0 at xs → (at ≡ min (length xs) (length t₀)) × (t₁ ≡ over t₀ xs)
+whole {t₀} {t₁} {at} {xs} w = (omega arith, w .text ∙ sets-over t₀ xs)

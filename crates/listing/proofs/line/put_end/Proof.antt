@@ -1,0 +1,43 @@
+-- `listing::line::put_end` meets its contract.
+-- Assumes nothing.
+use borrow.Author.Needs.{needs}
+use Rattle.listing.proofs.Wrote.{then}
+use Rattle.listing.proofs.line.put_end.Statement.{statement}
+use Rattle.listing.proofs.line.put_end.Tie as tie
+
+shared-slice-read-put-ending : tie.Need-shared-slice-read-put-ending
+shared-slice-read-put-ending c = search needs
+
+put-ending-requires : tie.Need-put-ending-requires
+put-ending-requires c κs = search needs
+
+put-requires : tie.Need-put-requires
+put-requires c κs = search needs
+
+shared-slice-read-put-number : tie.Need-shared-slice-read-put-number
+shared-slice-read-put-number c = search needs
+
+put-number-requires : tie.Need-put-number-requires
+put-number-requires c κs = search needs
+
+put-requires-2 : tie.Need-put-requires-2
+put-requires-2 c κs = search needs
+
+same-length : tie.Need-same-length
+same-length c = search needs
+
+returns : tie.Need-returns
+returns c = then (c .before .before .before .before .before .before .before .before .before .before .before .before .before .before .before .put-ending .ensures) (then (c .before .before .before .before .before .before .before .before .before .before .before .put .ensures) (then (c .before .before .before .before .before .before .put-number .ensures) (c .before .before .put2 .ensures)))
+
+pub put-end-spec : {M : Type 1} → statement M
+put-end-spec =
+    tie.close
+    (tie.spec
+    shared-slice-read-put-ending
+    put-ending-requires
+    put-requires
+    shared-slice-read-put-number
+    put-number-requires
+    put-requires-2
+    same-length
+    returns)

@@ -1,0 +1,29 @@
+-- `listing::line::put_line` meets its contract.
+-- Assumes nothing.
+use mathlib.Core.List.{append-assoc}
+use borrow.Author.Needs.{needs}
+use Rattle.listing.specs.Listing.{lineOf}
+use Rattle.listing.proofs.Wrote.{then}
+use Rattle.listing.proofs.line.put_line.Statement.{statement}
+use Rattle.listing.proofs.line.put_line.Tie as tie
+
+put-end-requires : tie.Need-put-end-requires
+put-end-requires c κs = search needs
+
+put-counts-requires : tie.Need-put-counts-requires
+put-counts-requires c κs = search needs
+
+put-registers-requires : tie.Need-put-registers-requires
+put-registers-requires c κs = search needs
+
+same-length : tie.Need-same-length
+same-length c = search needs
+
+returns : tie.Need-returns
+unfolding lineOf
+returns c = simp append-assoc at (then (c .before .before .before .before .before .before .before .before .before .before .put-end .ensures) (then (c .before .before .before .before .before .before .put-counts .ensures) (c .before .before .put-registers .ensures)))
+
+pub put-line-spec : {M : Type 1} → statement M
+put-line-spec =
+    tie.close
+    (tie.spec put-end-requires put-counts-requires put-registers-requires same-length returns)

@@ -1,0 +1,84 @@
+-- `listing::put_lines` meets its contract. The loop's invariant: the lines of the first `i` runs are written.
+-- Assumes nothing.
+use mathlib.Core.List.{List, append-assoc, append-nil, _++_}
+use mathlib.Core.Path.{ap, _≡_}
+use Prim.Native.Nat.{suc, zero, ℕ, _*_, _+_, _-_, _/_, _≤_}
+use native.Mathlib.Numerals.{add-one}
+use native.Mathlib.Omega.{arith}
+use lib.ListN.{drop, length, length-drop, take}
+use lib.Seq.{drop-drop, take-all}
+use Rattle.listing.specs.Listing.{lineOf, linesOf}
+use Rattle.listing.specs.Written.{Wrote}
+use Rattle.listing.proofs.Wrote.{nothing, same-room, then}
+use Rattle.listing.proofs.put_lines.Statement.{statement}
+use Rattle.listing.proofs.put_lines.Tie as tie
+
+-- one run more, at the end
+lines-more : (n : ℕ) (r : List ℕ) → linesOf (suc n) r ≡ linesOf n r ++ lineOf (drop (12 * n) r)
+unfolding linesOf
+lines-more zero r = append-nil (lineOf r)
+lines-more (suc n) r =
+    let next : 12 + 12 * n ≡ 12 * suc n = omega arith in
+    rw (append-assoc, ← next, ← drop-drop) (ap (λ (l : List ℕ). lineOf r ++ l) (lines-more n (drop 12 r)))
+
+-- a part that goes to the end
+all-left : (r : List ℕ) (n : ℕ) → take (length r - n) (drop n r) ≡ drop n r
+all-left r n = take-all (length r - n) (drop n r) (omega (arith, length-drop n r))
+
+abbrev Inv-loop : tie.InvT-loop
+Inv-loop text₀ from report at₀ i₀ text at i = Wrote text₀ text from at (linesOf i report) × (i ≤ length report / 12)
+
+abbrev μ-loop : tie.MeasureT-loop
+μ-loop text₀ from report at₀ i₀ text at i = length report / 12 - i
+
+loop-holds : tie.Need-loop-holds Inv-loop μ-loop
+unfolding linesOf
+loop-holds c = (nothing _ _ (c .before .before .pre), omega arith)
+
+mul-start : tie.Need-mul-start Inv-loop μ-loop
+mul-start c = omega arith
+
+sub-put-line : tie.Need-sub-put-line Inv-loop μ-loop
+sub-put-line c = omega arith
+
+part-put-line-start : tie.Need-part-put-line-start Inv-loop μ-loop
+part-put-line-start c = omega arith
+
+part-put-line-end : tie.Need-part-put-line-end Inv-loop μ-loop
+part-put-line-end c = omega arith
+
+put-line-requires : tie.Need-put-line-requires Inv-loop μ-loop
+put-line-requires c κs = (omega (arith, same-room (c .before .before .before .loop .inv .0)), rw (all-left, length-drop) (omega arith))
+
+add-i : tie.Need-add-i Inv-loop μ-loop
+add-i c = omega arith
+
+loop-less : tie.Need-loop-less Inv-loop μ-loop
+loop-less c = omega arith
+
+loop-again : tie.Need-loop-again Inv-loop μ-loop
+loop-again c = (rw (add-one, lines-more) (then (c .before .before .before .before .before .before .loop .inv .0) (rw all-left at (c .before .before .put-line .ensures))), omega arith)
+
+same-length : tie.Need-same-length Inv-loop μ-loop
+same-length c = same-room (c .before .loop .inv .0)
+
+returns : tie.Need-returns Inv-loop μ-loop
+returns c = let all : c .before .loop .i ≡ length (c .before .before .before .before .args .report .now) / 12 = omega arith in rw all at (c .before .loop .inv .0)
+
+pub put-lines-spec : {M : Type 1} → statement M
+put-lines-spec =
+    tie.close
+    (tie.spec
+    Inv-loop
+    μ-loop
+    loop-holds
+    mul-start
+    sub-put-line
+    part-put-line-start
+    part-put-line-end
+    put-line-requires
+    add-i
+    loop-less
+    loop-again
+    same-length
+    returns)

@@ -1,0 +1,45 @@
+-- `listing::put_refused` meets its contract.
+-- Assumes nothing.
+use borrow.Author.Needs.{needs}
+use Rattle.listing.specs.Listing.{refusedText}
+use Rattle.listing.proofs.Wrote.{then}
+use Rattle.listing.proofs.put_refused.Statement.{statement}
+use Rattle.listing.proofs.put_refused.Tie as tie
+
+slice-aggregate-put-bytes : tie.Need-slice-aggregate-put-bytes
+slice-aggregate-put-bytes c = search needs
+
+put-bytes-requires : tie.Need-put-bytes-requires
+put-bytes-requires c κs = search needs
+
+put-decimal-requires : tie.Need-put-decimal-requires
+put-decimal-requires c κs = search needs
+
+put-requires : tie.Need-put-requires
+put-requires c κs = search needs
+
+put-decimal-requires-2 : tie.Need-put-decimal-requires-2
+put-decimal-requires-2 c κs = search needs
+
+put-requires-2 : tie.Need-put-requires-2
+put-requires-2 c κs = search needs
+
+same-length : tie.Need-same-length
+same-length c = search needs
+
+returns : tie.Need-returns
+unfolding refusedText
+returns c = then (c .before .before .before .before .before .before .before .before .before .before .before .before .before .before .before .before .before .before .put-bytes .ensures) (then (c .before .before .before .before .before .before .before .before .before .before .before .before .before .before .put-decimal .ensures) (then (c .before .before .before .before .before .before .before .before .before .before .put .ensures) (then (c .before .before .before .before .before .before .put-decimal2 .ensures) (c .before .before .put2 .ensures))))
+
+pub put-refused-spec : {M : Type 1} → statement M
+put-refused-spec =
+    tie.close
+    (tie.spec
+    slice-aggregate-put-bytes
+    put-bytes-requires
+    put-decimal-requires
+    put-requires
+    put-decimal-requires-2
+    put-requires-2
+    same-length
+    returns)

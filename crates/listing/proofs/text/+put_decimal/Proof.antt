@@ -1,0 +1,102 @@
+-- `listing::text::put_decimal` meets its contract. The measure is `k`.
+-- Assumes nothing.
+use mathlib.Core.List.{List, [], _++_, _∷_}
+use mathlib.Core.Path.{refl, _≡_}
+use Prim.Native.Nat.{suc, zero, ℕ, _%_, _-_, _/_, _<_, _≤_}
+use native.Mathlib.Numerals.{sub-one}
+use native.Mathlib.Omega.{arith}
+use borrow.Author.Needs.{needs}
+use borrow.Fn.Kinds.{In}
+use borrow.Fn.PlainCycle.{Measures, and, falls, is}
+use Rattle.listing.specs.Laws.{decimal-long, decimal-short}
+use Rattle.listing.specs.Text.{decimalOf, digitOf}
+use Rattle.listing.specs.Written.{Wrote}
+use Rattle.listing.proofs.Wrote.{nothing, then}
+use Rattle.listing.proofs.text.+put_decimal.Lts-put_decimal as lts
+use Rattle.listing.proofs.text.+put_decimal.Tie.{close}
+use Rattle.listing.proofs.text.+put_decimal.{statement}
+use Rattle.listing.proofs.text.digit.Reads as digit
+use Rattle.listing.proofs.text.put.Reads as put
+use Rattle.listing.proofs.text.put_decimal.Kinds as kinds
+use Rattle.listing.proofs.text.put_decimal.Reads as reads
+
+abbrev μ : Measures 1 kinds.ps ℕ
+μ κs a = a .1 .1 .0
+
+abbrev here : ℕ → In 1 kinds.ps
+here t = and 1 kinds.ps (is 1 kinds.ps μ t) reads.Pre
+
+abbrev claims : ℕ → lts.Claims
+claims t = (digit.Asked, digit.Learnt, put.Asked, put.Learnt, and 1 kinds.ps (falls 1 kinds.ps _<_ μ t) reads.Pre, reads.Post)
+
+module _ {t₀ t₁ : List ℕ} {at₀ at₁ : ℕ} where
+  one-digit : (k n d : ℕ) → (k ≡ 0 → ⊥) → n < 10 → d ≡ digitOf n → Wrote t₀ t₁ at₀ at₁ (d ∷ []) → Wrote t₀ t₁ at₀ at₁ (decimalOf k n)
+  one-digit zero n d p h e w = absurd (p refl)
+  one-digit (suc k) n d p h e w = rw (decimal-short k n h, ← e) w
+
+  one-more : (k n d : ℕ) → (k ≡ 0 → ⊥) → 10 ≤ n → d ≡ digitOf (n % 10) → Wrote t₀ t₁ at₀ at₁ (decimalOf (k - 1) (n / 10) ++ (d ∷ [])) → Wrote t₀ t₁ at₀ at₁ (decimalOf k n)
+  one-more zero n d p h e w = absurd (p refl)
+  one-more (suc k) n d p h e w = rw (decimal-long k n h, ← e) (rw sub-one at w)
+
+module _ (t : ℕ) where
+  returns : lts.Need-returns (claims t) (here t) reads.Post
+  unfolding decimalOf
+  returns c = rw (c .if1 .taken) (nothing _ _ (c .before .before .pre .1))
+
+  cast-digit : lts.Need-cast-digit (claims t) (here t) reads.Post
+  cast-digit c = search needs
+
+  digit-requires : lts.Need-digit-requires (claims t) (here t) reads.Post
+  digit-requires c κs = search needs
+
+  put-requires : lts.Need-put-requires (claims t) (here t) reads.Post
+  put-requires c κs = search needs
+
+  same-length : lts.Need-same-length (claims t) (here t) reads.Post
+  same-length c = search needs
+
+  returns-2 : lts.Need-returns-2 (claims t) (here t) reads.Post
+  returns-2 c = one-digit _ _ _ (c .before .before .before .before .before .before .if1 .left) (c .before .before .before .before .before .if2 .taken) (c .before .before .before .digit .ensures) (c .before .before .put .ensures)
+
+  sub-put-decimal : lts.Need-sub-put-decimal (claims t) (here t) reads.Post
+  sub-put-decimal c = search needs
+
+  put-decimal-requires : lts.Need-put-decimal-requires (claims t) (here t) reads.Post
+  put-decimal-requires c κs = omega arith
+
+  cast-digit-2 : lts.Need-cast-digit-2 (claims t) (here t) reads.Post
+  cast-digit-2 c = search needs
+
+  digit-requires-2 : lts.Need-digit-requires-2 (claims t) (here t) reads.Post
+  digit-requires-2 c κs = search needs
+
+  put-requires-2 : lts.Need-put-requires-2 (claims t) (here t) reads.Post
+  put-requires-2 c κs = search needs
+
+  same-length-2 : lts.Need-same-length-2 (claims t) (here t) reads.Post
+  same-length-2 c = search needs
+
+  returns-3 : lts.Need-returns-3 (claims t) (here t) reads.Post
+  returns-3 c = one-more _ _ _ (c .before .before .before .before .before .before .before .before .before .before .if1 .left) (c .before .before .before .before .before .before .before .before .before .if2 .left) (c .before .before .before .digit2 .ensures) (then (c .before .before .before .before .before .before .before .put-decimal .ensures) (c .before .before .put2 .ensures))
+
+pub +put-decimal-spec : {M : Type 1} → statement M
++put-decimal-spec =
+    close
+    μ
+    (λ t. lts.spec
+    (claims t)
+    (here t)
+    reads.Post
+    (returns t)
+    (cast-digit t)
+    (digit-requires t)
+    (put-requires t)
+    (same-length t)
+    (returns-2 t)
+    (sub-put-decimal t)
+    (put-decimal-requires t)
+    (cast-digit-2 t)
+    (digit-requires-2 t)
+    (put-requires-2 t)
+    (same-length-2 t)
+    (returns-3 t))

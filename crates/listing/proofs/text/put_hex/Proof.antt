@@ -1,0 +1,60 @@
+-- `listing::text::put_hex` meets its contract.
+-- Assumes nothing.
+use borrow.Author.Needs.{needs}
+use Rattle.listing.specs.Text.{hexOf}
+use Rattle.listing.proofs.text.put_hex.Statement.{statement}
+use Rattle.listing.proofs.text.put_hex.Tie as tie
+
+cast-digit : tie.Need-cast-digit
+cast-digit c = search needs
+
+digit-requires : tie.Need-digit-requires
+digit-requires c κs = search needs
+
+cast-digit-2 : tie.Need-cast-digit-2
+cast-digit-2 c = search needs
+
+digit-requires-2 : tie.Need-digit-requires-2
+digit-requires-2 c κs = search needs
+
+cast-digit-3 : tie.Need-cast-digit-3
+cast-digit-3 c = search needs
+
+digit-requires-3 : tie.Need-digit-requires-3
+digit-requires-3 c κs = search needs
+
+cast-digit-4 : tie.Need-cast-digit-4
+cast-digit-4 c = search needs
+
+digit-requires-4 : tie.Need-digit-requires-4
+digit-requires-4 c κs = search needs
+
+slice-aggregate-put-bytes : tie.Need-slice-aggregate-put-bytes
+slice-aggregate-put-bytes c = search needs
+
+put-bytes-requires : tie.Need-put-bytes-requires
+put-bytes-requires c κs = search needs
+
+same-length : tie.Need-same-length
+same-length c = search needs
+
+returns : tie.Need-returns
+unfolding hexOf
+returns c = rw (c .before .before .before .before .before .before .before .before .digit .ensures, c .before .before .before .before .before .before .before .digit2 .ensures, c .before .before .before .before .before .before .digit3 .ensures, c .before .before .before .before .before .digit4 .ensures) at (c .before .before .put-bytes .ensures)
+
+pub put-hex-spec : {M : Type 1} → statement M
+put-hex-spec =
+    tie.close
+    (tie.spec
+    cast-digit
+    digit-requires
+    cast-digit-2
+    digit-requires-2
+    cast-digit-3
+    digit-requires-3
+    cast-digit-4
+    digit-requires-4
+    slice-aggregate-put-bytes
+    put-bytes-requires
+    same-length
+    returns)

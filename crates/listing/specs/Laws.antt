@@ -1,0 +1,107 @@
+-- Laws of the listing: how long a text can be, that a number's digits say the number, and the listings of document 01's worked card, of no run and of a refusal.
+-- Assumes nothing.
+use mathlib.Core.Bool.{Bool, cond, false, true}
+use mathlib.Core.List.{List, [], foldl, foldl-append, _++_, _∷_}
+use mathlib.Core.Logic.{⊎-elim}
+use mathlib.Core.Path.{refl, _≡_}
+use Prim.Native.Nat.{suc, zero, ℕ, _%_, _*_, _+_, _-_, _/_, _<_, _^_, _≤_}
+use native.Mathlib.Nat.{eq-zero-or-pos, pow-suc}
+use native.Mathlib.Omega.{arith}
+use lib.Dec.{eqb, ltb}
+use lib.ListN.{drop, getD, length, length-append}
+use borrow.Author.Tests.{le-ltb, lt-ltb, ltb-false, ltb-true}
+use Rattle.listing.specs.Listing.{endingText, lineOf, linesOf, listingOf, numberText, refusedText, runsText, wordIn}
+use Rattle.listing.specs.Text.{decimalOf, digitOf, hexOf}
+
+-- a number below 10 is one digit
+pub decimal-short : (k n : ℕ) → n < 10 → decimalOf (suc k) n ≡ digitOf n ∷ []
+unfolding decimalOf
+decimal-short k n h = rw (lt-ltb n 10 h)
+
+-- any other is the digits of its tenth, and one more
+pub decimal-long : (k n : ℕ) → 10 ≤ n → decimalOf (suc k) n ≡ decimalOf k (n / 10) ++ (digitOf (n % 10) ∷ [])
+unfolding decimalOf
+decimal-long k n h = rw (le-ltb n 10 h)
+
+-- the number that decimal digits say
+abbrev pub valueOf : List ℕ → ℕ
+valueOf ds = foldl (λ (n d : ℕ). n * 10 + (d - 48)) 0 ds
+
+digit-value : (d : ℕ) → d < 10 → digitOf d - 48 ≡ d
+digit-value d h = rw (lt-ltb d 10 h) (omega arith)
+
+value-more : (ds : List ℕ) (d : ℕ) → valueOf (ds ++ (d ∷ [])) ≡ valueOf ds * 10 + (d - 48)
+value-more ds d = foldl-append (λ (n d : ℕ). n * 10 + (d - 48)) 0 ds (d ∷ [])
+
+by-ten : (P : Type 0) (n : ℕ) (b : Bool) → ltb n 10 ≡ b → (n < 10 → P) → (10 ≤ n → P) → P
+by-ten P n true e f g = f (ltb-true n 10 e)
+by-ten P n false e f g = g (ltb-false n 10 e)
+
+pub decimal-value : (k n : ℕ) → n < 10 ^ k → 0 < k → valueOf (decimalOf k n) ≡ n
+decimal-value zero n h p = absurd (omega arith)
+decimal-value (suc k) n h p =
+    let room : n < 10 ^ k * 10 = rw pow-suc at h in
+    by-ten (valueOf (decimalOf (suc k) n) ≡ n) n (ltb n 10) refl
+    (λ (s : n < 10). rw (decimal-short k n s) (omega (arith, digit-value n s)))
+    (λ (s : 10 ≤ n).
+    let more : 0 < k = ⊎-elim (λ (e : k ≡ 0). absurd (let small : n < 10 ^ 0 * 10 = rw e at room in omega arith)) (λ (q : 0 < k). q) (eq-zero-or-pos k) in
+    rw (decimal-long k n s, value-more, decimal-value k (n / 10) (omega arith) more, digit-value (n % 10) (omega arith)) (omega arith))
+
+-- the longer of two
+cond-bound : (b : Bool) (k : ℕ) (xs ys : List ℕ) → length xs ≤ k → length ys ≤ k → length (cond b xs ys) ≤ k
+cond-bound true k xs ys h g = h
+cond-bound false k xs ys h g = g
+
+pub decimal-bound : (k n : ℕ) → length (decimalOf k n) ≤ k
+unfolding decimalOf
+decimal-bound zero n = omega arith
+decimal-bound (suc k) n =
+    cond-bound (ltb n 10) (suc k) _ _ (omega arith) (simp length-append (omega (arith, decimal-bound k (n / 10))))
+
+ending-bound : (n : ℕ) → length (endingText n) ≤ 7
+unfolding endingText
+ending-bound n =
+    cond-bound (eqb n 0) 7 _ _ (omega arith)
+    (cond-bound (eqb n 1) 7 _ _ (omega arith)
+    (cond-bound (eqb n 2) 7 _ _ (omega arith) (omega arith)))
+
+number-bound : (n : ℕ) → length (numberText n) ≤ 3
+unfolding numberText
+number-bound n = cond-bound (eqb n 255) 3 _ _ (omega arith) (decimal-bound 3 n)
+
+pub line-bound : (r : List ℕ) → length (lineOf r) ≤ 39
+unfolding lineOf hexOf
+line-bound r =
+    simp length-append
+    (omega (arith, ending-bound (getD r 0 0), number-bound (getD r 1 0), decimal-bound 5 (wordIn r 2), decimal-bound 10 (wordIn r 4 * 65536 + wordIn r 6)))
+
+lines-bound : (n : ℕ) (r : List ℕ) → length (linesOf n r) ≤ 39 * n
+unfolding linesOf
+lines-bound zero r = omega arith
+lines-bound (suc n) r = simp length-append (omega (arith, line-bound r, lines-bound n (drop 12 r)))
+
+pub listing-bound : (answer : ℕ) (report : List ℕ) → length (listingOf answer report) ≤ 39 * (length report / 12) + 30
+unfolding listingOf runsText refusedText
+listing-bound answer report =
+    cond-bound (ltb answer 4294967296) (39 * (length report / 12) + 30) _ _
+    (simp length-append (omega (arith, decimal-bound 20 (length report / 12), lines-bound (length report / 12) report)))
+    (simp length-append (omega (arith, decimal-bound 10 (answer / 4294967296), decimal-bound 10 (answer % 4294967296))))
+
+-- "runs 2", "entered 15 4 21 0008 0040" and "halted - 1 5 0002 0040"
+pub worked-card :
+    listingOf 24 (1 ∷ 15 ∷ 0 ∷ 4 ∷ 0 ∷ 0 ∷ 0 ∷ 21 ∷ 0 ∷ 8 ∷ 0 ∷ 64 ∷ 2 ∷ 255 ∷ 0 ∷ 1 ∷ 0 ∷ 0 ∷ 0 ∷ 5 ∷ 0 ∷ 2 ∷ 0 ∷ 64 ∷ [])
+    ≡ (114 ∷ 117 ∷ 110 ∷ 115 ∷ 32 ∷ 50 ∷ 10 ∷ [])
+    ++ (101 ∷ 110 ∷ 116 ∷ 101 ∷ 114 ∷ 101 ∷ 100 ∷ 32 ∷ 49 ∷ 53 ∷ 32 ∷ 52 ∷ 32 ∷ 50 ∷ 49 ∷ 32 ∷ 48 ∷ 48 ∷ 48 ∷ 56 ∷ 32 ∷ 48 ∷ 48 ∷ 52 ∷ 48 ∷ 10 ∷ [])
+    ++ (104 ∷ 97 ∷ 108 ∷ 116 ∷ 101 ∷ 100 ∷ 32 ∷ 45 ∷ 32 ∷ 49 ∷ 32 ∷ 53 ∷ 32 ∷ 48 ∷ 48 ∷ 48 ∷ 50 ∷ 32 ∷ 48 ∷ 48 ∷ 52 ∷ 48 ∷ 10 ∷ [])
+unfolding listingOf runsText linesOf lineOf endingText numberText decimalOf hexOf
+worked-card = refl
+
+-- "runs 0"
+pub worked-empty : listingOf 0 [] ≡ 114 ∷ 117 ∷ 110 ∷ 115 ∷ 32 ∷ 48 ∷ 10 ∷ []
+unfolding listingOf runsText linesOf decimalOf
+worked-empty = refl
+
+-- "refused 7 4095"
+pub worked-refusal : listingOf (7 * 4294967296 + 4095) [] ≡ 114 ∷ 101 ∷ 102 ∷ 117 ∷ 115 ∷ 101 ∷ 100 ∷ 32 ∷ 55 ∷ 32 ∷ 52 ∷ 48 ∷ 57 ∷ 53 ∷ 10 ∷ []
+unfolding listingOf refusedText decimalOf
+worked-refusal = refl

@@ -1,0 +1,74 @@
+-- The listing of a bench card. Document 01, "Bench card and its listing": "Fields: ending, number or `-`, steps, states, PC, FLAG (four digits,
+-- capitals). A refusal prints only `refused N P`."
+-- Assumes nothing.
+use mathlib.Core.Bool.{cond}
+use mathlib.Core.List.{List, [], _++_, _∷_}
+use Prim.Native.Nat.{suc, zero, ℕ, _%_, _*_, _+_, _/_}
+use lib.Dec.{eqb, ltb}
+use lib.ListN.{drop, getD, length, take}
+use Rattle.listing.specs.Text.{decimalOf, hexOf}
+
+abbrev pub space : List ℕ
+space = 32 ∷ []
+
+abbrev pub newline : List ℕ
+newline = 10 ∷ []
+
+-- the word at an offset of a report, the upper byte first
+abbrev pub wordIn : List ℕ → ℕ → ℕ
+wordIn r at = getD r at 0 * 256 + getD r (at + 1) 0
+
+-- `spent`, `entered`, `halted` or `lost`, by "ending (0 spent, 1 entered, 2 halted, 3 lost)"
+unfoldable pub endingText : ℕ → List ℕ
+endingText n =
+    cond (eqb n 0)
+    (115 ∷ 112 ∷ 101 ∷ 110 ∷ 116 ∷ [])
+    (cond (eqb n 1)
+    (101 ∷ 110 ∷ 116 ∷ 101 ∷ 114 ∷ 101 ∷ 100 ∷ [])
+    (cond (eqb n 2)
+    (104 ∷ 97 ∷ 108 ∷ 116 ∷ 101 ∷ 100 ∷ [])
+    (108 ∷ 111 ∷ 115 ∷ 116 ∷ [])))
+
+-- "number or `-`", where FFh is no number
+unfoldable pub numberText : ℕ → List ℕ
+numberText n = cond (eqb n 255) (45 ∷ []) (decimalOf 3 n)
+
+-- the line of a run, from the 12 bytes at the front of a report: a byte has at most 3 decimal digits, a word 5, 32 bits 10
+unfoldable pub lineOf : List ℕ → List ℕ
+lineOf r =
+    endingText (getD r 0 0)
+    ++ (space
+    ++ (numberText (getD r 1 0)
+    ++ (space
+    ++ (decimalOf 5 (wordIn r 2)
+    ++ (space
+    ++ (decimalOf 10 (wordIn r 4 * 65536 + wordIn r 6)
+    ++ (space
+    ++ (hexOf (wordIn r 8)
+    ++ (space
+    ++ (hexOf (wordIn r 10)
+    ++ newline))))))))))
+
+-- the lines of the first `n` runs of a report
+unfoldable pub linesOf : ℕ → List ℕ → List ℕ
+linesOf zero r = []
+linesOf (suc n) r = lineOf r ++ linesOf n (drop 12 r)
+
+-- `runs N`; 64 bits have at most 20 decimal digits
+unfoldable pub runsText : ℕ → List ℕ
+runsText n = 114 ∷ 117 ∷ 110 ∷ 115 ∷ 32 ∷ decimalOf 20 n ++ newline
+
+-- `refused N P`
+unfoldable pub refusedText : ℕ → ℕ → List ℕ
+refusedText n p = (114 ∷ 101 ∷ 102 ∷ 117 ∷ 115 ∷ 101 ∷ 100 ∷ 32 ∷ []) ++ (decimalOf 10 n ++ (space ++ (decimalOf 10 p ++ newline)))
+
+-- the listing of a call's answer (a refusal × 2^32 + P, or no refusal) and of the part of the report that it filled
+unfoldable pub listingOf : ℕ → List ℕ → List ℕ
+listingOf answer report =
+    cond (ltb answer 4294967296)
+    (runsText (length report / 12) ++ linesOf (length report / 12) report)
+    (refusedText (answer / 4294967296) (answer % 4294967296))
+
+-- a text written over the front of a buffer, and cut where the buffer ends
+abbrev pub over : List ℕ → List ℕ → List ℕ
+over buffer text = take (length buffer) text ++ drop (length text) buffer

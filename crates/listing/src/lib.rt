@@ -1,0 +1,62 @@
+// The listing of a bench card.
+ghost use mathlib.Core.Path.{_≡_};
+ghost use Prim.Native.Nat.{min, _/_, _≤_};
+ghost use lib.ListN.{length};
+ghost use Rattle.listing.specs.Listing as def;
+ghost use Rattle.listing.specs.Written.{Wrote};
+use line::put_line;
+use text::put;
+use text::put_bytes;
+use text::put_decimal;
+
+mod line;
+mod text;
+
+// How many runs a report tells of, in a line.
+fn put_runs(text: &mut [u8], runs: u64) -> usize
+    ensures { λ r. ⌜ Wrote (now (text .entry)) (now (text .exit)) 0 r (def.runsText runs) ⌝ }
+{
+    let mut at = put_bytes(text, 0, b"runs ");
+    at = put_decimal(text, at, 20, runs);
+    put(text, at, b'\n')
+}
+
+// A line for each run of a report.
+fn put_lines(text: &mut [u8], from: usize, report: &[u8]) -> usize
+    requires { ⌜ from ≤ length (now text) ⌝ }
+    ensures { λ r. ⌜ Wrote (now (text .entry)) (now (text .exit)) from r (def.linesOf (length (now (report .entry)) / 12) (now (report .entry))) ⌝ }
+{
+    let mut at = from;
+    let mut i = 0;
+    while i < report.len() / 12 {
+        let start = 12 * i;
+        at = put_line(text, at, &report[start..]);
+        i += 1;
+    }
+    at
+}
+
+// Why a card is refused, and where.
+fn put_refused(text: &mut [u8], number: u64, place: u64) -> usize
+    ensures { λ r. ⌜ Wrote (now (text .entry)) (now (text .exit)) 0 r (def.refusedText number place) ⌝ }
+{
+    let mut at = put_bytes(text, 0, b"refused ");
+    at = put_decimal(text, at, 10, number);
+    at = put(text, at, b' ');
+    at = put_decimal(text, at, 10, place);
+    put(text, at, b'\n')
+}
+
+// The listing of a card's answer and of the part of the report that it filled, written to the front of `text` and cut where that ends.
+// Answers how many bytes were written.
+pub fn write_listing(answer: u64, report: &[u8], text: &mut [u8]) -> usize
+    ensures count { λ r. ⌜ r ≡ min (length (def.listingOf answer (now (report .entry)))) (length (now (text .entry))) ⌝ }
+    ensures text { λ _. ⌜ now (text .exit) ≡ def.over (now (text .entry)) (def.listingOf answer (now (report .entry))) ⌝ }
+{
+    if answer < 4294967296 {
+        let at = put_runs(text, (report.len() / 12) as u64);
+        put_lines(text, at, report)
+    } else {
+        put_refused(text, answer / 4294967296, answer % 4294967296)
+    }
+}

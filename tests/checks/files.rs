@@ -1,0 +1,193 @@
+//! Cards and listings that the repository stores.
+
+use std::fs;
+use std::path::{Path, PathBuf};
+use tac_tests::card;
+use tac_tests::stored::{self, Stored};
+
+fn at_root(path: &str) -> PathBuf {
+    Path::new(env!("CARGO_MANIFEST_DIR")).join("..").join(path)
+}
+
+fn bytes(path: &str) -> Vec<u8> {
+    fs::read(at_root(path)).unwrap_or_else(|error| panic!("{path}: {error}"))
+}
+
+fn text(path: &str) -> String {
+    String::from_utf8(bytes(path)).expect("listings are text")
+}
+
+/// The card that `bench` is run on is the worked one.
+#[test]
+fn worked_card_of_bench() {
+    assert_eq!(bytes("crates/bench/stdin"), stored::all()[0].card);
+    assert_eq!(text("crates/bench/stdout"), "runs 2\nentered 15 4 21 0008 0040\nhalted - 1 5 0002 0040\n");
+}
+
+/// The stored files are what `cargo run --bin store` writes.
+#[test]
+fn stored_files() {
+    let (input, output) = stored::files(&stored::all());
+    assert!(bytes("crates/stored/stdin") == input, "crates/stored/stdin is not what `store` writes");
+    assert!(text("crates/stored/stdout") == output, "crates/stored/stdout is not what `store` writes");
+    assert!(input.len() < 60_000 && output.len() < 60_000, "{} {}", input.len(), output.len());
+}
+
+/// The stored input, read by its format, gives the stored output.
+#[test]
+fn stored_input_read_back() {
+    let input = bytes("crates/stored/stdin");
+    let mut rest = &input[..];
+    let mut output = String::new();
+    while let [m, n, image_lacks, f, g, r, s, c, d, more @ ..] = rest {
+        let number = |a: &u8, b: &u8| *a as u16 * 256 + *b as u16;
+        let (card, behind) = more.split_at(number(c, d) as usize);
+        let case = Stored {
+            name: String::new(),
+            memory_lacks: number(m, n),
+            image_lacks: *image_lacks,
+            flag: number(f, g),
+            report: number(r, s),
+            card: card.to_vec(),
+        };
+        output.push_str(&case.listing());
+        rest = behind;
+    }
+    assert!(rest.is_empty());
+    assert!(output == text("crates/stored/stdout"));
+}
+
+/// Every refusal, every ending and every number of an entry is stored.
+#[test]
+fn stored_is_varied() {
+    let output = text("crates/stored/stdout");
+    let lines: Vec<&str> = output.lines().collect();
+    let begins = |front: String| assert!(lines.iter().any(|line| line.starts_with(&front)), "no line with {front}");
+    (1..=8).for_each(|number| begins(format!("refused {number} ")));
+    (0..=15).for_each(|number| begins(format!("entered {number} ")));
+    ["spent", "halted", "lost"].iter().for_each(|ending| begins(format!("{ending} - ")));
+}
+
+/// Listings that were worked out by hand from document 01.
+const BY_HAND: [(&str, &str); 21] = [
+    ("the worked card", "runs 2\nentered 15 4 21 0008 0040\nhalted - 1 5 0002 0040\n"),
+    ("an empty card", "runs 0\n"),
+    // ADD in mode 5 and a jump; PC goes from FFFEh to 0000h, then to G0.
+    ("01 at both ends of memory", "runs 1\nspent - 2 9 0005 0040\n"),
+    // SVC; then SSP, 4 less than set, and USP, which is 0.
+    (
+        "02 for number 13 is SSP while P=0",
+        "runs 3\nentered 15 1 12 0002 0000\nspent - 1 5 1FFC 0040\nspent - 1 5 0000 0040\n",
+    ),
+    // Line 2; RETI and line 9; RETI and two NO.
+    (
+        "03 adds lines: both are entered, the lowest first",
+        "runs 3\nentered 2 1 12 0000 00C0\nentered 9 2 21 0000 00C0\nspent - 3 15 0004 00C0\n",
+    ),
+    ("03 sets the input byte, read from port 18h", "runs 2\nspent - 2 12 005A 0040\nspent - 2 12 00FF 0040\n"),
+    ("04 with 65,535 steps", "runs 1\nspent - 65535 327675 0000 0040\n"),
+    // 32,768 DIV at 73 and 32,767 jumps at 5.
+    (
+        "04 with 65,535 steps, half of them DIV",
+        "runs 2\nspent - 65535 2555899 0004 0041\nspent - 1 5 0000 0041\n",
+    ),
+    // LD and SVC, entry 1 with R; ST and SVC, entry 1 with R and D.
+    (
+        "R-bit and D as accesses leave them",
+        "runs 4\nentered 15 2 19 1206 0000\nspent - 2 12 9635 0040\nentered 15 2 18 120C 0000\nspent - 2 12 9E35 0040\n",
+    ),
+    (
+        "06 on and off, in user and kernel mode",
+        "runs 3\nentered 10 1 12 0000 0000\nspent - 2 6 0004 0000\nspent - 2 6 0008 0040\n",
+    ),
+    ("RETI keeps the bits of FLAG that there are", "runs 1\nspent - 5 29 2000 00EF\n"),
+    // Starred examples: V S, C S, C S.
+    (
+        "sums, differences and a shift by 0",
+        "runs 3\nspent - 1 4 0002 004A\nspent - 1 4 0004 0046\nspent - 1 5 0006 0046\n",
+    ),
+    // NO and the fault; two IN and a jump to the address; a jump to the cause.
+    ("11: a read without right", "runs 3\nentered 11 2 15 1202 0000\nspent - 3 19 1580 0040\nspent - 1 5 0001 0040\n"),
+    ("10: a page that is not there", "runs 2\nentered 10 2 15 1202 0000\nspent - 2 12 007E 0040\n"),
+    ("12: a division by 0", "runs 2\nentered 12 2 16 1202 0009\nspent - 0 0 0C00 0049\n"),
+    // 8 turns of 20 states, the last jump not taken: 5 + 159 + 6 + 12.
+    ("a loop over mapped data", "runs 2\nentered 15 35 182 1216 0001\nspent - 2 12 000C 0041\n"),
+    // ADD, SVC; then ADD, RETI, a jump, ADD, SVC each time.
+    (
+        "requests one after the other: user, kernel, user",
+        "runs 4\nentered 15 2 16 1204 0000\nentered 15 5 35 1204 0000\nentered 15 5 35 1204 0000\n\
+         entered 15 5 35 1204 0000\n",
+    ),
+    (
+        "lost by SVC on an odd SSP, and found lost",
+        "runs 4\nlost - 2 3 0002 0040\nlost - 0 0 0002 0040\nlost - 0 0 0002 0040\nlost - 0 0 0002 0040\n",
+    ),
+    // 100 ADD; 409 more; the last ADD and HALT; found halted.
+    (
+        "a card of 4,096 bytes",
+        "runs 4\nspent - 100 400 00C8 0040\nspent - 409 1636 03FA 0040\nhalted - 2 9 03FE 0040\nhalted - 0 0 03FE 0040\n",
+    ),
+    ("refused 6: register 16, cut short", "refused 6 0\n"),
+    // 1,023 commands of 4 bytes stand in front.
+    ("refused 6: the last command of a long card", "refused 6 4092\n"),
+];
+
+#[test]
+fn stored_listings_by_hand() {
+    let cases = stored::all();
+    for (name, expected) in BY_HAND {
+        let case = cases.iter().find(|case| case.name == name).unwrap_or_else(|| panic!("no case {name}"));
+        assert_eq!(case.listing(), expected, "{name}");
+    }
+}
+
+/// No two stored cases have one name.
+#[test]
+fn stored_names() {
+    let mut names: Vec<String> = stored::all().into_iter().map(|case| case.name).collect();
+    names.sort();
+    let count = names.len();
+    names.dedup();
+    assert_eq!(names.len(), count);
+}
+
+/// The bytes of a card's text: pairs of digits, comments from # on.
+fn of_hex(text: &str) -> Vec<u8> {
+    let words = text.lines().flat_map(|line| line.split('#').next().unwrap_or_default().split_whitespace());
+    words.map(|pair| u8::from_str_radix(pair, 16).expect("a byte")).collect()
+}
+
+/// Each example's text is its card, and its listing is that of the card.
+#[test]
+fn example_cards() {
+    let mut names = Vec::new();
+    for file in fs::read_dir(at_root("examples")).expect("examples") {
+        let path = file.expect("a file").path();
+        if !path.extension().is_some_and(|end| end == "card" || end == "hex") {
+            continue;
+        }
+        let name = path.file_stem().and_then(|stem| stem.to_str()).expect("a name").to_string();
+        let card = bytes(&format!("examples/{name}.card"));
+        assert_eq!(of_hex(&text(&format!("examples/{name}.hex"))), card, "{name}");
+        assert_eq!(card::bench(&card), text(&format!("examples/{name}.txt")), "{name}");
+        names.push(name);
+    }
+    for name in ["worked", "fence", "winder", "refused"] {
+        assert!(names.iter().any(|found| found == name), "no example {name}");
+    }
+}
+
+/// The winder keeps to its label: three turns are done, the motor is off, and the program was answered four times.
+#[test]
+fn winder_keeps_the_label() {
+    use tac_tests::emulator::{HALTED, MEMORY, P};
+    use tac_tests::image;
+    let mut memory = vec![0; MEMORY];
+    let mut state = [0; image::IMAGE];
+    state[image::FLAG + 1] = P as u8;
+    let mut report = [0; 120];
+    card::card(&mut memory, &mut state, &bytes("examples/winder.card"), &mut report);
+    let m = image::read(memory, &state);
+    assert_eq!((m.memory[0x0301], m.memory[0x0303]), (3, 3));
+    assert_eq!((m.output, m.condition, m.regs[5]), (0, HALTED, 4));
+}
