@@ -1,9 +1,17 @@
 /* The TaC emulator: runs, bench cards and views of a machine in buffers that the caller lends.
  *
- * A machine is 65,536 bytes of memory and a state image of 68 bytes. Numbers in the image and in a report stand upper byte first.
+ * A machine is TAC_MEMORY_BYTES of memory and a state image of TAC_IMAGE_BYTES. Numbers in the image and in a report stand upper byte
+ * first.
  *
- * What a caller owes: no pointer is null, the buffers of one call do not overlap, each has the length that is passed with it, and nothing
- * else writes to them during the call. Lengths and contents may be anything: a call tests them first, in the order of the refusals.
+ * What a caller owes: the buffers of one call do not overlap, each has the length that is passed with it, and nothing else writes to them
+ * during the call. Lengths and contents may be anything: a call tests them first, in the order of the refusals.
+ *
+ * Null pointers: a pointer may be null where its length is 0. Nothing is read or written through it, and the call answers as for any other
+ * buffer of no bytes: memory gives refusal 1, the image 2, the report 8 unless it is that of a card without runs, and a card is the empty
+ * one, which is good. A null pointer with another length is the caller's error. This is tested on the built library and not proved.
+ *
+ * A call keeps nothing for later calls, uses its buffers and some kilobytes of stack, and calls nothing. Calls on separate buffers may run
+ * at the same time. Every call ends: a run after at most TAC_ALLOWANCE steps, a card after at most TAC_CARD_STEPS, which take some seconds.
  */
 #ifndef TAC_H
 #define TAC_H
@@ -15,10 +23,18 @@
 extern "C" {
 #endif
 
+/* The version of this interface. MAJOR goes up where a caller has to change, as for another size of the image. */
+#define TAC_VERSION_MAJOR 1
+#define TAC_VERSION_MINOR 0
+
 #define TAC_MEMORY_BYTES 65536
 #define TAC_IMAGE_BYTES 68
 #define TAC_REPORT_BYTES 12
-#define TAC_CARD_BYTES 4096 /* at most */
+#define TAC_CARD_BYTES 4096                                         /* at most */
+#define TAC_CARD_RUNS (TAC_CARD_BYTES / 3)                          /* at most, of 3 bytes each: 1,365 */
+#define TAC_CARD_REPORT_BYTES (TAC_CARD_RUNS * TAC_REPORT_BYTES)    /* enough for every card: 16,380 */
+#define TAC_ALLOWANCE 65535                                         /* at most */
+#define TAC_CARD_STEPS ((uint32_t)TAC_CARD_RUNS * TAC_ALLOWANCE)    /* at most: 89,455,275 */
 
 /* Offsets in a state image. */
 enum {
@@ -27,35 +43,98 @@ enum {
     TAC_IMAGE_SSP = 26,        /* word */
     TAC_IMAGE_USP = 28,        /* word */
     TAC_IMAGE_PC = 30,         /* word */
-    TAC_IMAGE_FLAG = 32,       /* word: 0000 0000 EPI0 VCSZ */
+    TAC_IMAGE_FLAG = 32,       /* word of TAC_FLAG bits */
     TAC_IMAGE_PENDING = 34,    /* word: bit n is interrupt n, 0 to 9 */
     TAC_IMAGE_INPUT = 36,      /* byte */
     TAC_IMAGE_OUTPUT = 37,     /* byte */
     TAC_IMAGE_MMU = 38,        /* byte: 0 off, 1 on */
-    TAC_IMAGE_CONDITION = 39,  /* byte: 0 running, 1 halted, 2 lost */
+    TAC_IMAGE_CONDITION = 39,  /* byte: a TAC_CONDITION */
     TAC_IMAGE_VIOLATION = 40,  /* word: violation address */
-    TAC_IMAGE_CAUSE = 42,      /* byte: bit 1 odd address, bit 0 right */
+    TAC_IMAGE_CAUSE = 42,      /* byte of TAC_CAUSE bits */
     TAC_IMAGE_MISSED = 43,     /* byte: missed page */
-    TAC_IMAGE_TLB = 44         /* eight entries of 3 bytes: page 23-16, V 15, two zeros, R 12, D 11, read 10, write 9, execute 8, frame 7-0 */
+    TAC_IMAGE_TLB = 44         /* TAC_TLB_ENTRIES of TAC_TLB_ENTRY_BYTES each */
+};
+
+/* FLAG: 0000 0000 EPI0 VCSZ. */
+enum {
+    TAC_FLAG_E = 0x80,  /* interrupts on */
+    TAC_FLAG_P = 0x40,  /* privileged: kernel mode */
+    TAC_FLAG_I = 0x20,  /* I/O privilege */
+    TAC_FLAG_V = 0x08,  /* overflow */
+    TAC_FLAG_C = 0x04,  /* carry */
+    TAC_FLAG_S = 0x02,  /* sign */
+    TAC_FLAG_Z = 0x01   /* zero */
+};
+
+enum { TAC_CONDITION_RUNNING = 0, TAC_CONDITION_HALTED = 1, TAC_CONDITION_LOST = 2 };
+
+/* Causes of a violation, added up until IN of A4h clears them. */
+enum {
+    TAC_CAUSE_RIGHT = 1,  /* a right is not given */
+    TAC_CAUSE_ODD = 2     /* a word at an odd address */
+};
+
+/* A TLB entry is a number of 24 bits: the page, these bits, the frame. Bits 14 and 13 are 0. */
+#define TAC_TLB_ENTRIES 8
+#define TAC_TLB_ENTRY_BYTES 3
+enum {
+    TAC_TLB_PAGE_SHIFT = 16,
+    TAC_TLB_VALID = 0x8000,
+    TAC_TLB_REFERENCED = 0x1000,
+    TAC_TLB_DIRTY = 0x0800,
+    TAC_TLB_READ = 0x0400,
+    TAC_TLB_WRITE = 0x0200,
+    TAC_TLB_EXECUTE = 0x0100,
+    TAC_TLB_FRAME = 0x00FF
 };
 
 /* Offsets in the report of a run. */
 enum {
-    TAC_REPORT_ENDING = 0,  /* byte: 0 spent, 1 entered, 2 halted, 3 lost */
-    TAC_REPORT_NUMBER = 1,  /* byte: number entered, or FFh */
+    TAC_REPORT_ENDING = 0,  /* byte: a TAC_ENDING */
+    TAC_REPORT_NUMBER = 1,  /* byte: the number entered, or TAC_NUMBER_NONE */
     TAC_REPORT_STEPS = 2,   /* word */
     TAC_REPORT_STATES = 4,  /* four bytes */
     TAC_REPORT_PC = 8,      /* word: the saved one if entered */
     TAC_REPORT_FLAG = 10    /* word: the saved one if entered */
 };
 
+/* How a run ends. */
+enum {
+    TAC_ENDING_SPENT = 0,    /* its allowance is used up */
+    TAC_ENDING_ENTERED = 1,  /* its last step entered the kernel */
+    TAC_ENDING_HALTED = 2,
+    TAC_ENDING_LOST = 3      /* the kernel could not be entered: SSP was odd */
+};
+
+/* Numbers entered: 0 to 9 are the interrupts. */
+enum {
+    TAC_NUMBER_MISS = 10,       /* no TLB entry has the page */
+    TAC_NUMBER_VIOLATION = 11,  /* an odd address, or a right that is not given */
+    TAC_NUMBER_DIVISION = 12,   /* a zero divisor */
+    TAC_NUMBER_PRIVILEGE = 13,
+    TAC_NUMBER_UNDEFINED = 14,  /* an undefined instruction */
+    TAC_NUMBER_SVC = 15,
+    TAC_NUMBER_NONE = 0xFF
+};
+
+/* Commands of a bench card, with their operands. */
+enum {
+    TAC_COMMAND_BYTE = 1,      /* address (2), byte */
+    TAC_COMMAND_REGISTER = 2,  /* 0 to 11 G0 to G11, 12 FP, 13 SSP, 14 USP, 15 PC; value (2) */
+    TAC_COMMAND_LINES = 3,     /* lines added to pending (2), input byte */
+    TAC_COMMAND_RUN = 4,       /* allowance (2) */
+    TAC_COMMAND_ENTRY = 5,     /* TLB entry 0 to 7, its bits (3) */
+    TAC_COMMAND_MMU = 6,       /* 0 or 1 */
+    TAC_COMMAND_FLAG = 7       /* FLAG (2) */
+};
+
 /* Refusals. A call that is refused leaves memory, image and report as they were. */
 enum {
     TAC_GOOD = 0,
-    TAC_MEMORY_LENGTH = 1,  /* memory is not 65,536 bytes */
-    TAC_IMAGE_LENGTH = 2,   /* the image is not 68 bytes */
+    TAC_MEMORY_LENGTH = 1,  /* memory is not TAC_MEMORY_BYTES */
+    TAC_IMAGE_LENGTH = 2,   /* the image is not TAC_IMAGE_BYTES */
     TAC_IMAGE_FIELD = 3,    /* FLAG, pending, MMU, condition, cause or a TLB entry's zeros are beyond their values */
-    TAC_CARD_LENGTH = 4,    /* the card is over 4,096 bytes */
+    TAC_CARD_LENGTH = 4,    /* the card is over TAC_CARD_BYTES */
     TAC_CARD_UNKNOWN = 5,   /* the first bad command: an unknown byte */
     TAC_CARD_SHORT = 6,     /* its operands are cut short */
     TAC_CARD_BEYOND = 7,    /* its operand is beyond its values */

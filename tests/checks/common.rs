@@ -1,5 +1,6 @@
 //! Small starts for single tests.
 
+use tac_tests::assemble::put_words;
 use tac_tests::emulator::{Ending, Machine, Report, P};
 
 /// Kernel mode, PC 0100h, SSP 1000h, with these words at PC.
@@ -29,9 +30,7 @@ pub fn user(words: &[u16]) -> Machine {
 }
 
 pub fn put(m: &mut Machine, address: usize, words: &[u16]) {
-    for (k, word) in words.iter().enumerate() {
-        m.memory[address + 2 * k..address + 2 * k + 2].copy_from_slice(&word.to_be_bytes());
-    }
+    put_words(&mut m.memory, address, words);
 }
 
 pub fn get(m: &Machine, address: usize) -> u16 {

@@ -5,7 +5,7 @@ use std::path::{Path, PathBuf};
 use tac_tests::card;
 use tac_tests::stored::{self, Stored};
 
-fn at_root(path: &str) -> PathBuf {
+pub fn at_root(path: &str) -> PathBuf {
     Path::new(env!("CARGO_MANIFEST_DIR")).join("..").join(path)
 }
 
@@ -13,7 +13,7 @@ fn bytes(path: &str) -> Vec<u8> {
     fs::read(at_root(path)).unwrap_or_else(|error| panic!("{path}: {error}"))
 }
 
-fn text(path: &str) -> String {
+pub fn text(path: &str) -> String {
     String::from_utf8(bytes(path)).expect("listings are text")
 }
 
@@ -172,7 +172,7 @@ fn example_cards() {
         assert_eq!(card::bench(&card), text(&format!("examples/{name}.txt")), "{name}");
         names.push(name);
     }
-    for name in ["worked", "fence", "winder", "refused"] {
+    for name in ["worked", "pages", "fence", "winder", "refused"] {
         assert!(names.iter().any(|found| found == name), "no example {name}");
     }
 }

@@ -4,6 +4,7 @@ use crate::common::*;
 use tac_tests::card::{self, bench};
 use tac_tests::emulator::*;
 use tac_tests::image;
+use tac_tests::report::report_bytes;
 
 /// 1: the serving entry's own bits are tested, a later entry does not help.
 #[test]
@@ -455,7 +456,7 @@ fn ruling_18_20_view() {
 #[test]
 fn ruling_19_report_bytes() {
     let report = Report { ending: Ending::Entered(9), steps: 0x0102, states: 0x0304_0506, pc: 0x0708, flag: 0x00EF };
-    assert_eq!(card::report_bytes(&report), [1, 9, 1, 2, 3, 4, 5, 6, 7, 8, 0, 0xEF]);
+    assert_eq!(report_bytes(&report), [1, 9, 1, 2, 3, 4, 5, 6, 7, 8, 0, 0xEF]);
 }
 
 /// Interrupts: the lowest line first, as a step of its own, E=1 only.

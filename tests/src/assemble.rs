@@ -110,7 +110,8 @@ pub enum Operand {
 
 use Operand::*;
 
-fn moded(base: u8, rd: u8, operand: Operand) -> Words {
+/// An instruction with Rd and an operand, by its first byte in mode 0.
+pub fn moded(base: u8, rd: u8, operand: Operand) -> Words {
     let (mode, last, second) = match operand {
         At(address) => (0, 0, Some(address)),
         Indexed(address, rx) => (1, rx, Some(address)),
@@ -129,52 +130,43 @@ fn single(first: u8, rd: u8) -> Words {
     vec![u16::from_be_bytes([first, rd << 4])]
 }
 
-/// A word as it is: an undefined instruction, or data.
-pub fn word(value: u16) -> Words {
-    vec![value]
+/// A constructor for each instruction: its name and its first byte, that in mode 0 where there is an operand.
+macro_rules! constructors {
+    ($(operand $moded:ident $base:literal)* $(register $single:ident $first:literal)* $(alone $bare:ident $only:literal)*) => {
+        $(pub fn $moded(rd: u8, operand: Operand) -> Words { moded($base, rd, operand) })*
+        $(pub fn $single(rd: u8) -> Words { single($first, rd) })*
+        $(pub fn $bare() -> Words { single($only, 0) })*
+    };
 }
 
-pub fn no() -> Words {
-    single(0x00, 0)
+constructors! {
+    operand ld 0x08
+    operand st 0x10
+    operand add 0x18
+    operand sub 0x20
+    operand cmp 0x28
+    operand xor 0x40
+    operand adds 0x48
+    operand mul 0x50
+    operand div 0x58
+    operand rem 0x60
+    operand shla 0x80
+    operand shra 0x90
+    operand shrl 0x98
+    operand jump 0xA0
+    operand input 0xB0
+    operand output 0xB8
+    register ld_flag 0x14
+    register push 0xC0
+    register pop 0xC4
+    alone no 0x00
+    alone ret 0xD0
+    alone reti 0xD4
+    alone svc 0xF0
+    alone halt 0xFF
 }
 
-pub fn ld(rd: u8, source: Operand) -> Words {
-    moded(0x08, rd, source)
-}
-
-pub fn st(rd: u8, place: Operand) -> Words {
-    moded(0x10, rd, place)
-}
-
-pub fn add(rd: u8, source: Operand) -> Words {
-    moded(0x18, rd, source)
-}
-
-pub fn sub(rd: u8, source: Operand) -> Words {
-    moded(0x20, rd, source)
-}
-
-pub fn cmp(rd: u8, source: Operand) -> Words {
-    moded(0x28, rd, source)
-}
-
-pub fn mul(rd: u8, source: Operand) -> Words {
-    moded(0x50, rd, source)
-}
-
-pub fn div(rd: u8, source: Operand) -> Words {
-    moded(0x58, rd, source)
-}
-
-pub fn shla(rd: u8, source: Operand) -> Words {
-    moded(0x80, rd, source)
-}
-
-pub fn shra(rd: u8, source: Operand) -> Words {
-    moded(0x90, rd, source)
-}
-
-// Jump conditions.
+// Jump conditions, which stand in the place of Rd.
 pub const ZERO: u8 = 0;
 pub const CARRY: u8 = 1;
 pub const SIGN: u8 = 2;
@@ -182,8 +174,8 @@ pub const OVERFLOW: u8 = 3;
 pub const NOT_ZERO: u8 = 8;
 pub const ALWAYS: u8 = 15;
 
-pub fn jump(condition: u8, target: Operand) -> Words {
-    moded(0xA0, condition, target)
+pub fn call(target: Operand) -> Words {
+    moded(0xA8, 0, target)
 }
 
 /// A jump to the address in a register: PC, which a listing shows, becomes its value.
@@ -191,38 +183,14 @@ pub fn show(register: u8) -> Words {
     jump(ALWAYS, Indexed(0, register))
 }
 
-pub fn call(target: Operand) -> Words {
-    moded(0xA8, 0, target)
+/// A word as it is: an undefined instruction, or data.
+pub fn word(value: u16) -> Words {
+    vec![value]
 }
 
-pub fn input(rd: u8, port: Operand) -> Words {
-    moded(0xB0, rd, port)
-}
-
-pub fn output(rd: u8, port: Operand) -> Words {
-    moded(0xB8, rd, port)
-}
-
-pub fn push(rd: u8) -> Words {
-    single(0xC0, rd)
-}
-
-pub fn pop(rd: u8) -> Words {
-    single(0xC4, rd)
-}
-
-pub fn ret() -> Words {
-    single(0xD0, 0)
-}
-
-pub fn reti() -> Words {
-    single(0xD4, 0)
-}
-
-pub fn svc() -> Words {
-    single(0xF0, 0)
-}
-
-pub fn halt() -> Words {
-    single(0xFF, 0)
+/// Writes words into memory, one behind the other.
+pub fn put_words(memory: &mut [u8], place: usize, words: &[u16]) {
+    for (k, word) in words.iter().enumerate() {
+        memory[place + 2 * k..place + 2 * k + 2].copy_from_slice(&word.to_be_bytes());
+    }
 }

@@ -1,11 +1,10 @@
-//! Calls on byte buffers: run, card and view, with refusals 4 to 8, the
-//! 12-byte reports, and the listing of `bench`.
+//! Calls on byte buffers: run, card and view, with refusals 4 to 8, and the
+//! listing of `bench`.
 
-use crate::emulator::{Ending, Machine, Report, FLAG_BITS, LINES, MEMORY, P, ZEROS};
+use crate::emulator::{Machine, Report, FLAG_BITS, LINES, MEMORY, P, ZEROS};
 use crate::image::{self, Refusal};
+use crate::report::{report_bytes, REPORT};
 
-/// Bytes of one run's report.
-pub const REPORT: usize = 12;
 /// The longest good card.
 pub const LONGEST: usize = 4_096;
 
@@ -92,24 +91,6 @@ fn act(machine: &mut Machine, command: Command) -> Option<Report> {
         Command::Flag { value } => machine.flag = value,
     }
     None
-}
-
-/// The 12 bytes: ending, number or FFh, steps(2), states(4), PC(2), FLAG(2).
-pub fn report_bytes(report: &Report) -> [u8; REPORT] {
-    let (ending, number) = match report.ending {
-        Ending::Spent => (0, 0xFF),
-        Ending::Entered(number) => (1, number),
-        Ending::Halted => (2, 0xFF),
-        Ending::Lost => (3, 0xFF),
-    };
-    let mut bytes = [0; REPORT];
-    bytes[0] = ending;
-    bytes[1] = number;
-    bytes[2..4].copy_from_slice(&report.steps.to_be_bytes());
-    bytes[4..8].copy_from_slice(&report.states.to_be_bytes());
-    bytes[8..10].copy_from_slice(&report.pc.to_be_bytes());
-    bytes[10..12].copy_from_slice(&report.flag.to_be_bytes());
-    bytes
 }
 
 fn answered(result: Result<usize, Refusal>) -> u64 {

@@ -1,11 +1,13 @@
 //! Random cases: runs, cards, and pairs of memories for demand 3.
 
-use crate::card::{self, LONGEST, REPORT};
+use crate::assemble::put_words;
+use crate::card::{self, LONGEST};
 use crate::case::{Call, Case};
 use crate::emulator::{Machine, E, EXECUTE, FLAG_BITS, I, LINES, MEMORY, P, READ, VALID};
 use crate::image;
 use crate::isolation::Pair;
 use crate::program::{self, Ground, Style};
+use crate::report::REPORT;
 use crate::rng::Rng;
 use crate::sample::{self, edge, instruction_word, value};
 
@@ -144,7 +146,7 @@ impl Maker {
     fn instructions(&mut self, rng: &mut Rng, place: usize, words: usize) {
         for at in (place..place + 2 * words).step_by(2) {
             let word = instruction_word(rng, &self.first_bytes);
-            self.machine.memory[at..at + 2].copy_from_slice(&word.to_be_bytes());
+            put_words(&mut self.machine.memory, at, &[word]);
         }
     }
 
@@ -196,33 +198,12 @@ impl Maker {
         rng.fill(&mut case.report);
     }
 
-    /// Handlers in one frame, an even SSP: a card's later runs go on from an entry.
-    fn handlers(&mut self, rng: &mut Rng) {
-        const HANDLERS: [&[u16]; 4] = [
-            &[0xD400],                                         // RETI
-            &[0xB000, 0x00A4, 0xB010, 0x00A2, 0xD400],         // IN cause, IN address, RETI
-            &[0xC400, 0xC410, 0x1D12, 0xC010, 0xC000, 0xD400], // go on behind the faulting word
-            &[0xFF00],                                         // HALT
-        ];
-        let frame = rng.below(255) as usize * 256;
-        for number in 0..16 {
-            let place = frame + 16 * number;
-            let kinds = if rng.chance(95) { 3 } else { 4 };
-            let words = rng.pick(&HANDLERS[..kinds]);
-            for (k, word) in words.iter().enumerate() {
-                self.machine.memory[place + 2 * k..place + 2 * k + 2].copy_from_slice(&word.to_be_bytes());
-            }
-            let vector = 0xFFE0 + 2 * number;
-            self.machine.memory[vector..vector + 2].copy_from_slice(&(place as u16).to_be_bytes());
-        }
-        self.machine.ssp &= 0xFFFE;
-    }
-
     /// A card on a random start.
     pub fn card_case(&mut self, rng: &mut Rng, case: &mut Case) {
         self.scene(rng);
         if rng.chance(75) {
-            self.handlers(rng);
+            let frame = rng.below(255) as u8;
+            handlers(rng, &mut self.machine, frame);
         }
         let bytes = random_card(rng, &self.machine);
         let runs = match card::commands(&bytes) {
@@ -271,6 +252,23 @@ impl Maker {
             }
         }
     }
+}
+
+/// Handlers in one frame, an even SSP: a card's later runs go on from an entry.
+pub fn handlers(rng: &mut Rng, machine: &mut Machine, frame: u8) {
+    const HANDLERS: [&[u16]; 4] = [
+        &[0xD400],                                         // RETI
+        &[0xB000, 0x00A4, 0xB010, 0x00A2, 0xD400],         // IN cause, IN address, RETI
+        &[0xC400, 0xC410, 0x1D12, 0xC010, 0xC000, 0xD400], // go on behind the faulting word
+        &[0xFF00],                                         // HALT
+    ];
+    for number in 0..16 {
+        let place = frame as usize * 256 + 16 * number;
+        let kinds = if rng.chance(95) { 3 } else { 4 };
+        put_words(&mut machine.memory, place, rng.pick(&HANDLERS[..kinds]));
+        put_words(&mut machine.memory, 0xFFE0 + 2 * number, &[place as u16]);
+    }
+    machine.ssp &= 0xFFFE;
 }
 
 /// Frames to which some valid entry gives the read or the execute right.

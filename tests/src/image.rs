@@ -5,7 +5,8 @@ use crate::emulator::{Machine, FLAG_BITS, LINES, MEMORY, ZEROS};
 /// Bytes of an image.
 pub const IMAGE: usize = 68;
 
-// Offsets of the image's fields ("Registers and state image").
+// Offsets of the image's fields ("Registers and state image"): 13 words G0-G11 and FP, then the others.
+pub const REGS: usize = 0;
 pub const SSP: usize = 26;
 pub const USP: usize = 28;
 pub const PC: usize = 30;
@@ -72,7 +73,7 @@ pub fn test(memory: &[u8], image: &[u8]) -> Result<(), Refusal> {
 pub fn read(memory: Vec<u8>, image: &[u8]) -> Machine {
     Machine {
         memory,
-        regs: std::array::from_fn(|n| word(image, 2 * n)),
+        regs: std::array::from_fn(|n| word(image, REGS + 2 * n)),
         ssp: word(image, SSP),
         usp: word(image, USP),
         pc: word(image, PC),
@@ -94,7 +95,7 @@ pub fn write(machine: &Machine) -> [u8; IMAGE] {
     let mut image = [0; IMAGE];
     let mut put = |at: usize, value: u16| image[at..at + 2].copy_from_slice(&value.to_be_bytes());
     for (n, &value) in machine.regs.iter().enumerate() {
-        put(2 * n, value);
+        put(REGS + 2 * n, value);
     }
     put(SSP, machine.ssp);
     put(USP, machine.usp);

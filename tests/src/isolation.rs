@@ -1,10 +1,10 @@
 //! Demand 3, checked on two runs.
 
-use crate::card::REPORT;
 use crate::case::{hex, shrink_parts, smallest, RunCall};
 use crate::emulator::{EXECUTE, I, MEMORY, P, READ, VALID, WRITE};
 use crate::image::{self, IMAGE};
 use crate::replay;
+use crate::report::REPORT;
 
 /// Two memories for one image and allowance.
 #[derive(Clone, Debug, PartialEq, Eq)]

@@ -10,8 +10,11 @@ pub mod image;
 pub mod isolation;
 pub mod program;
 pub mod replay;
+pub mod report;
 pub mod rng;
 pub mod sample;
+pub mod scenarios;
+pub mod scene;
 pub mod stored;
 
 #[cfg(feature = "library")]

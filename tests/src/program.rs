@@ -1,5 +1,6 @@
 //! Programs that mostly run on without a fault, with nasty words mixed in.
 
+use crate::assemble::put_words;
 use crate::emulator::{Machine, EXECUTE, READ, WRITE};
 use crate::rng::Rng;
 use crate::sample::{self, edge, number, ALU, PORTS};
@@ -108,9 +109,7 @@ pub fn write(rng: &mut Rng, machine: &mut Machine, ground: &Ground, style: Style
             words[at] = rng.pick(&starts);
         }
         let place = ground.frame(&machine.tlb, page);
-        for (k, word) in words.iter().enumerate() {
-            machine.memory[place + 2 * k..place + 2 * k + 2].copy_from_slice(&word.to_be_bytes());
-        }
+        put_words(&mut machine.memory, place, &words);
     }
     starts
 }

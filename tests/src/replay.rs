@@ -13,11 +13,12 @@
 //! ```
 
 use crate::assemble::Card;
-use crate::card::{self, LONGEST, REPORT};
+use crate::card::{self, LONGEST};
 use crate::case::{hex, Call, Case};
 use crate::emulator::{MEMORY, P, RUNNING};
 use crate::image;
 use crate::isolation::Pair;
+use crate::report::REPORT;
 use std::fmt::Write;
 
 #[derive(Clone, Debug)]

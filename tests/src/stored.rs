@@ -6,9 +6,10 @@
 
 use crate::assemble::Operand::*;
 use crate::assemble::*;
-use crate::card::{self, LONGEST, REPORT};
+use crate::card::{self, LONGEST};
 use crate::emulator::{C, E, I, MEMORY, P, S, V, Z};
 use crate::image::{self, IMAGE};
+use crate::report::REPORT;
 
 /// A call on a card.
 #[derive(Clone, Debug)]

@@ -2,17 +2,18 @@
 -- FLAG 0040h."
 -- Assumes nothing.
 use mathlib.Core.List.{List}
-use Prim.Native.Nat.{ℕ}
+use Prim.Native.Nat.{ℕ, _+_}
 use lib.ListN.{replicate, set}
 use Rattle.card.specs.Call.{cardCall, filledPart}
+use Rattle.image.specs.Layout.{flagAt, imageSize}
 use Rattle.listing.specs.Listing.{listingOf}
 
 abbrev pub zeroMemory : List ℕ
 zeroMemory = replicate 65536 0
 
--- the lower byte of FLAG stands at offset 33
+-- FLAG, whose lower byte stands behind its upper
 abbrev pub firstImage : List ℕ
-firstImage = set (replicate 68 0) 33 64
+firstImage = set (replicate imageSize 0) (flagAt + 1) 0x40
 
 -- room for the reports of the most runs that a card can have, 1,365
 abbrev pub zeroReport : List ℕ

@@ -1,24 +1,23 @@
 -- A listing of the program is never cut, and the program refuses a card for what the card itself has.
 -- Assumes nothing.
-use mathlib.Core.Bool.{Bool, true}
-use mathlib.Core.List.{List, append-nil, _++_}
+use mathlib.Core.List.{List, _++_}
 use mathlib.Core.Path.{ap, refl, sym, _∙_, _≡_}
-use Prim.Native.Nat.{min, ℕ, _*_, _/_, _≤_}
+use Prim.Native.Nat.{min, ℕ, _*_, _≤_}
 use native.Mathlib.Nat.{min-eq-left}
 use native.Mathlib.Omega.{arith}
 use borrow.Author.Tests.{le-leb}
-use lib.Dec.{leb}
 use lib.ListN.{drop, length, length-replicate, take}
 use lib.Seq.{take-all, take-at}
 use Rattle.card.specs.Call.{cardCall, filledPart}
-use Rattle.card.specs.Card.{readingOf, runsIn, testedOf, thenCard}
+use Rattle.card.specs.Card.{cardValid, readingOf, runsIn}
 use Rattle.card.specs.Laws.{part-short, runs-bound}
-use Rattle.image.specs.Decode.{allZeros, flagGood, goodImage, pendingGood, zerosGood}
-use Rattle.image.specs.Refusal.{thenReport, verdictOf}
-use Rattle.image.specs.declared.Verdict.{Verdict}
-use Rattle.image.specs.declared.Verdict.the-variants.{Good, Refused}
+use Rattle.image.specs.Valid.{allZeros, flagGood, goodImage, machineValid, pendingGood, zerosGood}
+use Rattle.refusal.specs.Refusal.{andThen, reportFits}
+use Rattle.refusal.specs.declared.Validity.{Validity}
+use Rattle.refusal.specs.declared.Validity.the-variants.{Good, Refused}
 use Rattle.listing.specs.Laws.{listing-bound}
 use Rattle.listing.specs.Listing.{listingOf, over}
+use Rattle.report.specs.Layout.{reportSize}
 use Rattle.bench.specs.Bench.{benchOf, firstImage, zeroMemory, zeroReport}
 
 -- a listing fits a text of 65,536 bytes
@@ -38,7 +37,7 @@ module _ (card before after : List ℕ) (answer count : ℕ) (part : List ℕ) (
   unfolding benchOf
   listing-is = ap (λ (n : ℕ). listingOf n part) a ∙ ap (listingOf ((cardCall zeroMemory firstImage card zeroReport) .answer)) p
 
-  pub count-is : count ≡ length (benchOf card)
+  count-is : count ≡ length (benchOf card)
   count-is =
       c
       ∙ ap (λ (bytes : List ℕ). min (length bytes) (length before)) listing-is
@@ -50,22 +49,25 @@ module _ (card before after : List ℕ) (answer count : ℕ) (part : List ℕ) (
       ∙ ap (over before) listing-is
       ∙ ap (λ (bytes : List ℕ). bytes ++ drop (length (benchOf card)) before) (take-all (length before) (benchOf card) (omega (arith, bench-short card)))
 
-  pub text-is : take count after ≡ benchOf card
+  text-is : take count after ≡ benchOf card
   text-is = ap (take count) after-is ∙ take-at (benchOf card) (drop (length (benchOf card)) before) count (sym count-is)
 
-first-good : (long : ℕ) → long ≡ 65536 → verdictOf long firstImage ≡ Good
-unfolding verdictOf goodImage flagGood pendingGood allZeros zerosGood
+  pub written : (count ≡ length (benchOf card)) × ((take count after ≡ benchOf card) × (count ≤ 65536))
+  written = (count-is, (text-is, omega (arith, count-is, bench-short card)))
+
+first-good : (long : ℕ) → long ≡ 65536 → machineValid long firstImage ≡ Good
+unfolding machineValid goodImage flagGood pendingGood allZeros zerosGood
 first-good long e = rw e refl
 
-report-enough : (v : Verdict) (needed long : ℕ) → needed ≤ long → thenReport v long needed ≡ v
+report-enough : (v : Validity) (needed long : ℕ) → needed ≤ long → andThen v (reportFits long needed) ≡ v
+unfolding reportFits
 report-enough (Refused r) needed long h = refl
-report-enough Good needed long h = rw (le-leb needed long h) refl
+report-enough Good needed long h = rw (le-leb needed long h)
 
 -- memory, image and report are good, so a card is refused only for itself
-pub bench-tested : (card : List ℕ) → testedOf (length zeroMemory) firstImage card (length zeroReport) ≡ (readingOf card) .verdict
-unfolding testedOf
+pub bench-tested : (card : List ℕ) → cardValid (length zeroMemory) firstImage card (length zeroReport) ≡ (readingOf card) .validity
+unfolding cardValid
 bench-tested card =
-    ap (λ (v : Verdict). thenReport (thenCard v ((readingOf card) .verdict)) (length zeroReport) (12 * runsIn ((readingOf card) .commands)))
-    (first-good (length zeroMemory) (length-replicate {A = ℕ} 65536 0))
-    ∙ report-enough ((readingOf card) .verdict) (12 * runsIn ((readingOf card) .commands)) (length zeroReport)
-    (omega (arith, length-replicate {A = ℕ} 16380 0, runs-bound card))
+    let needed : ℕ = reportSize * runsIn ((readingOf card) .commands) in
+    let room : needed ≤ length zeroReport = omega (arith, length-replicate {A = ℕ} 16380 0, runs-bound card) in
+    rw (first-good (length zeroMemory) (length-replicate {A = ℕ} 65536 0)) (report-enough ((readingOf card) .validity) needed (length zeroReport) room)

@@ -3,6 +3,11 @@ ghost use mathlib.Core.Path.{_≡_};
 ghost use Prim.Native.Nat.{_≤_};
 ghost use lib.ListN.{length, take};
 ghost use Rattle.bench.specs.Bench.{benchOf};
+use image::IMAGE;
+use image::layout::FLAG;
+
+// Bit P of FLAG.
+const PRIVILEGED: u8 = 0x40;
 
 // The listing of a card on zero memory and an image that is zero but FLAG 0040h.
 fn listed(card: &[u8], text: &mut [u8]) -> usize
@@ -12,8 +17,8 @@ fn listed(card: &[u8], text: &mut [u8]) -> usize
     ensures bound { λ r. ⌜ r ≤ 65536 ⌝ }
 {
     let mut memory = [0u8; 65536];
-    let mut image = [0u8; 68];
-    image[33] = 64;
+    let mut image = [0u8; IMAGE];
+    image[FLAG + 1] = PRIVILEGED;
     let mut report = [0u8; 16380];
     let mut answer = 0;
     let filled = card::run_card(&mut memory, &mut image, card, &mut report, &mut answer);

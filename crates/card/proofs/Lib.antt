@@ -1,3 +1,4 @@
+pub mod Counts
+pub mod Executes
 pub mod Operands
-pub mod Tested
 pub mod Turns

@@ -5,36 +5,37 @@ use mathlib.Core.List.{List, [], _++_}
 use Prim.Native.Nat.{ℕ, _*_}
 use lib.Dec.{ltb}
 use lib.ListN.{drop, length}
-use Rattle.image.specs.Call.{Call, unlessRefused}
+use Rattle.refusal.specs.Call.{Call, unlessRefused}
 use Rattle.image.specs.Decode.{stateFrom}
 use Rattle.image.specs.Image.{imageOf}
-use Rattle.image.specs.declared.Verdict.{Verdict}
-use Rattle.image.specs.declared.Verdict.the-variants.{Good, Refused}
-use Rattle.card.specs.Card.{readingOf, runsIn, testedOf}
-use Rattle.card.specs.Play.{Played, playOf}
+use Rattle.refusal.specs.declared.Validity.{Validity}
+use Rattle.refusal.specs.declared.Validity.the-variants.{Good, Refused}
+use Rattle.report.specs.Layout.{reportSize}
+use Rattle.card.specs.Card.{readingOf, runsIn, cardValid}
+use Rattle.card.specs.Effect.{Effect, executeOf}
 use Rattle.card.specs.declared.Command.{Command}
 
 -- the number of report bytes filled, 12 × runs, "bytes behind it keep their values"
-abbrev pub playedCall : ℕ → Played → List ℕ → Call
-playedCall filled p rep =
+abbrev pub executedCall : ℕ → Effect → List ℕ → Call
+executedCall filled p rep =
     record { answer = filled; memory = p .memory; image = imageOf (p .state); report = p .reports ++ drop filled rep }
 
 -- a card
 unfoldable pub cardCall : List ℕ → List ℕ → List ℕ → List ℕ → Call
 cardCall m b card rep =
     let commands : List Command = (readingOf card) .commands in
-    let done : Call = playedCall (12 * runsIn commands) (playOf commands (stateFrom b) m) rep in
-    unlessRefused (testedOf (length m) b card (length rep)) m b rep done
+    let done : Call = executedCall (reportSize * runsIn commands) (executeOf commands (stateFrom b) m) rep in
+    unlessRefused (cardValid (length m) b card (length rep)) m b rep done
 
 -- the bytes filled, by the answer: none if it is a refusal
 abbrev pub filledBy : ℕ → ℕ
 filledBy answer = cond (ltb answer 4294967296) answer 0
 
-abbrev pub ifGood : Verdict → List ℕ → List ℕ
+abbrev pub ifGood : Validity → List ℕ → List ℕ
 ifGood (Refused r) bytes = []
 ifGood Good bytes = bytes
 
 -- "The filled front part of the caller's report is handed back, empty on a refusal"
 unfoldable pub filledPart : List ℕ → List ℕ → List ℕ → List ℕ → List ℕ
 filledPart m b card rep =
-    ifGood (testedOf (length m) b card (length rep)) ((playOf ((readingOf card) .commands) (stateFrom b) m) .reports)
+    ifGood (cardValid (length m) b card (length rep)) ((executeOf ((readingOf card) .commands) (stateFrom b) m) .reports)

@@ -7,62 +7,91 @@ use mathlib.Core.List.{List}
 use Prim.Native.Nat.{ℕ, _+_}
 use lib.Dec.{eqb, leb, ltb}
 use lib.ListN.{length}
-use Rattle.image.specs.Decode.{byteFrom, entryFrom, flagGood, pendingGood, wordFrom, zerosGood}
-use Rattle.image.specs.declared.Refusal.the-variants.{Beyond, Short, Unknown}
+use Rattle.image.specs.Decode.{entryFrom}
+use Rattle.image.specs.Valid.{flagGood, pendingGood, zerosGood}
+use Rattle.refusal.specs.declared.Cause.{Cause}
+use Rattle.refusal.specs.declared.Cause.the-variants.{CommandBeyond, CommandShort, CommandUnknown}
+use Rattle.word.specs.Bytes.{byteFrom, wordFrom}
 use Rattle.card.specs.declared.Command.{Command}
 use Rattle.card.specs.declared.Command.the-variants.{Byte, Entry, Flag, Lines, Mmu, Register, Run}
 use Rattle.card.specs.declared.Parsed.{Parsed}
 use Rattle.card.specs.declared.Parsed.the-variants.{Bad, End, Next}
 
+-- the commands' bytes
+abbrev pub byteCommand : ℕ
+byteCommand = 1
+
+abbrev pub registerCommand : ℕ
+registerCommand = 2
+
+abbrev pub linesCommand : ℕ
+linesCommand = 3
+
+abbrev pub runCommand : ℕ
+runCommand = 4
+
+abbrev pub entryCommand : ℕ
+entryCommand = 5
+
+abbrev pub mmuCommand : ℕ
+mmuCommand = 6
+
+abbrev pub flagCommand : ℕ
+flagCommand = 7
+
 -- how many bytes of operands a command has; 0 for a byte that is no command, since every command has some
 unfoldable pub operandsOf : ℕ → ℕ
 operandsOf n =
-    cond (eqb n 1) 3
-    (cond (eqb n 2) 3
-    (cond (eqb n 3) 3
-    (cond (eqb n 4) 2
-    (cond (eqb n 5) 4
-    (cond (eqb n 6) 1
-    (cond (eqb n 7) 2
+    cond (eqb n byteCommand) 3
+    (cond (eqb n registerCommand) 3
+    (cond (eqb n linesCommand) 3
+    (cond (eqb n runCommand) 2
+    (cond (eqb n entryCommand) 4
+    (cond (eqb n mmuCommand) 1
+    (cond (eqb n flagCommand) 2
     0))))))
 
 -- the number of a command
 abbrev pub commandNumber : Command → ℕ
-commandNumber (Byte a v) = 1
-commandNumber (Register n v) = 2
-commandNumber (Lines lines v) = 3
-commandNumber (Run n) = 4
-commandNumber (Entry k bits) = 5
-commandNumber (Mmu on) = 6
-commandNumber (Flag w) = 7
+commandNumber (Byte a v) = byteCommand
+commandNumber (Register n v) = registerCommand
+commandNumber (Lines lines v) = linesCommand
+commandNumber (Run n) = runCommand
+commandNumber (Entry k bits) = entryCommand
+commandNumber (Mmu on) = mmuCommand
+commandNumber (Flag w) = flagCommand
 
 -- the operands within their values; `b` holds the command's own byte first
 unfoldable pub goodOf : ℕ → List ℕ → Bool
 goodOf n b =
-    cond (eqb n 2) (ltb (byteFrom b 1) 16)
-    (cond (eqb n 3) (pendingGood (wordFrom b 1))
-    (cond (eqb n 5) (ltb (byteFrom b 1) 8 && zerosGood (byteFrom b 3))
-    (cond (eqb n 6) (ltb (byteFrom b 1) 2)
-    (cond (eqb n 7) (flagGood (wordFrom b 1))
+    cond (eqb n registerCommand) (ltb (byteFrom b 1) 16)
+    (cond (eqb n linesCommand) (pendingGood (wordFrom b 1))
+    (cond (eqb n entryCommand) (ltb (byteFrom b 1) 8 && zerosGood (byteFrom b 3))
+    (cond (eqb n mmuCommand) (ltb (byteFrom b 1) 2)
+    (cond (eqb n flagCommand) (flagGood (wordFrom b 1))
     Bool.true))))
 
 -- a command with its operands
 unfoldable pub commandOf : ℕ → List ℕ → Command
 commandOf n b =
-    cond (eqb n 1) (Byte (wordFrom b 1) (byteFrom b 3))
-    (cond (eqb n 2) (Register (byteFrom b 1) (wordFrom b 2))
-    (cond (eqb n 3) (Lines (wordFrom b 1) (byteFrom b 3))
-    (cond (eqb n 4) (Run (wordFrom b 1))
-    (cond (eqb n 5) (Entry (byteFrom b 1) (entryFrom b 2))
-    (cond (eqb n 6) (Mmu (eqb (byteFrom b 1) 1))
+    cond (eqb n byteCommand) (Byte (wordFrom b 1) (byteFrom b 3))
+    (cond (eqb n registerCommand) (Register (byteFrom b 1) (wordFrom b 2))
+    (cond (eqb n linesCommand) (Lines (wordFrom b 1) (byteFrom b 3))
+    (cond (eqb n runCommand) (Run (wordFrom b 1))
+    (cond (eqb n entryCommand) (Entry (byteFrom b 1) (entryFrom b 2))
+    (cond (eqb n mmuCommand) (Mmu (eqb (byteFrom b 1) 1))
     (Flag (wordFrom b 1)))))))
+
+-- a bad command, by its cause and its place
+abbrev pub bad : Cause → ℕ → Parsed
+bad cause at = Bad (record { cause = cause; place = at })
 
 -- What stands at position `at` of a card, `b` being the card from there on. "first bad command: unknown byte", "its operands cut short",
 -- "its operand beyond its values": the causes in this order, each with the position of the command's first byte.
 unfoldable pub parsedOf : ℕ → List ℕ → Parsed
 parsedOf at b =
     cond (eqb (length b) 0) End
-    (cond (eqb (operandsOf (byteFrom b 0)) 0) (Bad (Unknown at))
-    (cond (leb (length b) (operandsOf (byteFrom b 0))) (Bad (Short at))
+    (cond (eqb (operandsOf (byteFrom b 0)) 0) (bad CommandUnknown at)
+    (cond (leb (length b) (operandsOf (byteFrom b 0))) (bad CommandShort at)
     (cond (goodOf (byteFrom b 0) b) (Next (commandOf (byteFrom b 0) b) (at + (1 + operandsOf (byteFrom b 0))))
-    (Bad (Beyond at)))))
+    (bad CommandBeyond at))))

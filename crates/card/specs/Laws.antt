@@ -5,24 +5,26 @@ use mathlib.Core.List.{List, [], _++_, _∷_}
 use mathlib.Core.Path.{ap, refl, sym, _∙_, _≡_}
 use Prim.Native.Nat.{suc, zero, ℕ, _*_, _+_, _-_, _<_, _≤_}
 use native.Mathlib.Omega.{arith}
-use lib.Dec.{eqb, leb}
+use lib.Dec.{leb}
 use lib.ListN.{drop, drop-of-length-le, length, length-append, length-drop, take}
 use lib.Seq.{length-take-le, take-at}
-use borrow.Author.Tests.{eqb-true, le-ltb, leb-false, leb-true, lt-ltb}
-use Rattle.image.specs.Call.{unlessRefused}
-use Rattle.image.specs.Decode.{byteFrom, entryFrom, stateFrom, wordFrom}
-use Rattle.image.specs.Image.{wordBytes}
-use Rattle.image.specs.Refusal.{answerOf}
-use Rattle.image.specs.Report.{reportOf}
-use Rattle.image.specs.declared.Refusal.{Refusal}
-use Rattle.image.specs.declared.Refusal.the-variants.{Beyond, CardLength, Field, ImageLength, MemoryLength, ReportLength, Short, Unknown}
-use Rattle.image.specs.declared.Verdict.{Verdict}
-use Rattle.image.specs.declared.Verdict.the-variants.{Good, Refused}
+use borrow.Author.Tests.{le-ltb, leb-true, lt-ltb}
+use Rattle.refusal.specs.Call.{unlessRefused}
+use Rattle.image.specs.Decode.{stateFrom}
+use Rattle.refusal.specs.Laws.{answer-large}
+use Rattle.word.specs.Bytes.{byteFrom, wordBytes}
+use Rattle.refusal.specs.Refusal.{answerOf, refused}
+use Rattle.report.specs.Layout.{reportSize}
+use Rattle.report.specs.Report.{reportOf}
+use Rattle.refusal.specs.declared.Cause.the-variants.{CardLength}
+use Rattle.refusal.specs.declared.Validity.{Validity}
+use Rattle.refusal.specs.declared.Validity.the-variants.{Good, Refused}
 use Rattle.machine.specs.declared.State.{State}
-use Rattle.card.specs.Call.{cardCall, filledBy, filledPart, ifGood, playedCall}
-use Rattle.card.specs.Card.{Reading, isRun, readAtMost, readBy, readFrom, reading, readingOf, runsIn, testedOf}
-use Rattle.card.specs.Command.{commandNumber, commandOf, goodOf, operandsOf, parsedOf}
-use Rattle.card.specs.Play.{Played, actOf, playOf}
+use Rattle.card.specs.Call.{cardCall, filledBy, filledPart, ifGood, executedCall}
+use Rattle.card.specs.Card.{Reading, cardSize, isRun, readAtMost, readBy, readFrom, reading, readingOf, runsIn, cardValid}
+use Rattle.card.specs.Command.{commandNumber, commandOf, operandsOf, parsedOf}
+use Rattle.card.specs.Effect.{Effect, effectOf, executeOf}
+use Rattle.card.specs.Whole.{Whole, by-number, whole}
 use Rattle.card.specs.declared.Command.{Command}
 use Rattle.card.specs.declared.Command.the-variants.{Byte, Entry, Flag, Lines, Mmu, Register, Run}
 use Rattle.card.specs.declared.Parsed.{Parsed}
@@ -40,95 +42,27 @@ one-at-most (Entry k bits) = omega arith
 one-at-most (Mmu on) = omega arith
 one-at-most (Flag w) = omega arith
 
--- a command by the tests of its number
-abbrev commandBy : List ℕ → Bool → Bool → Bool → Bool → Bool → Bool → Command
-commandBy b t1 t2 t3 t4 t5 t6 =
-    cond t1 (Byte (wordFrom b 1) (byteFrom b 3))
-    (cond t2 (Register (byteFrom b 1) (wordFrom b 2))
-    (cond t3 (Lines (wordFrom b 1) (byteFrom b 3))
-    (cond t4 (Run (wordFrom b 1))
-    (cond t5 (Entry (byteFrom b 1) (entryFrom b 2))
-    (cond t6 (Mmu (eqb (byteFrom b 1) 1))
-    (Flag (wordFrom b 1)))))))
-
-run-long-by :
-    (b : List ℕ) (t1 t2 t3 t4 t5 t6 t7 : Bool)
-    → 3 * isRun (commandBy b t1 t2 t3 t4 t5 t6) ≤ 1 + cond t1 3 (cond t2 3 (cond t3 3 (cond t4 2 (cond t5 4 (cond t6 1 (cond t7 2 0))))))
-run-long-by b true t2 t3 t4 t5 t6 t7 = omega arith
-run-long-by b false true t3 t4 t5 t6 t7 = omega arith
-run-long-by b false false true t4 t5 t6 t7 = omega arith
-run-long-by b false false false true t5 t6 t7 = omega arith
-run-long-by b false false false false true t6 t7 = omega arith
-run-long-by b false false false false false true t7 = omega arith
-run-long-by b false false false false false false t7 = omega arith
-
 -- a run takes three bytes
-run-long : (n : ℕ) (b : List ℕ) → 3 * isRun (commandOf n b) ≤ 1 + operandsOf n
+run-long : (b : List ℕ) (n : ℕ) → 0 < operandsOf n → 3 * isRun (commandOf n b) ≤ 1 + operandsOf n
 unfolding commandOf operandsOf
-run-long n b = run-long-by b (eqb n 1) (eqb n 2) (eqb n 3) (eqb n 4) (eqb n 5) (eqb n 6) (eqb n 7)
-
-numbered-by :
-    (n : ℕ) (b : List ℕ) (t1 t2 t3 t4 t5 t6 t7 : Bool) → eqb n 1 ≡ t1 → eqb n 2 ≡ t2 → eqb n 3 ≡ t3 → eqb n 4 ≡ t4 → eqb n 5 ≡ t5
-    → eqb n 6 ≡ t6 → eqb n 7 ≡ t7 → 0 < cond t1 3 (cond t2 3 (cond t3 3 (cond t4 2 (cond t5 4 (cond t6 1 (cond t7 2 0))))))
-    → commandNumber (commandBy b t1 t2 t3 t4 t5 t6) ≡ n
-numbered-by n b true t2 t3 t4 t5 t6 t7 e1 e2 e3 e4 e5 e6 e7 h = sym (eqb-true n 1 e1)
-numbered-by n b false true t3 t4 t5 t6 t7 e1 e2 e3 e4 e5 e6 e7 h = sym (eqb-true n 2 e2)
-numbered-by n b false false true t4 t5 t6 t7 e1 e2 e3 e4 e5 e6 e7 h = sym (eqb-true n 3 e3)
-numbered-by n b false false false true t5 t6 t7 e1 e2 e3 e4 e5 e6 e7 h = sym (eqb-true n 4 e4)
-numbered-by n b false false false false true t6 t7 e1 e2 e3 e4 e5 e6 e7 h = sym (eqb-true n 5 e5)
-numbered-by n b false false false false false true t7 e1 e2 e3 e4 e5 e6 e7 h = sym (eqb-true n 6 e6)
-numbered-by n b false false false false false false true e1 e2 e3 e4 e5 e6 e7 h = sym (eqb-true n 7 e7)
-numbered-by n b false false false false false false false e1 e2 e3 e4 e5 e6 e7 h = absurd (omega arith)
+run-long b =
+    by-number (λ (n : ℕ). 3 * isRun (commandOf n b) ≤ 1 + operandsOf n) (omega arith) (omega arith) (omega arith) (omega arith) (omega arith)
+    (omega arith) (omega arith)
 
 -- the command that a byte names has that byte as its number
-pub numbered : (n : ℕ) (b : List ℕ) → 0 < operandsOf n → commandNumber (commandOf n b) ≡ n
-unfolding commandOf operandsOf
-numbered n b h =
-    numbered-by n b (eqb n 1) (eqb n 2) (eqb n 3) (eqb n 4) (eqb n 5) (eqb n 6) (eqb n 7) refl refl refl refl refl refl refl h
-
--- a command, and its next position; others where there is none
-abbrev commandOr : Command → Parsed → Command
-commandOr y End = y
-commandOr y (Bad r) = y
-commandOr y (Next x next) = x
-
-abbrev nextOr : ℕ → Parsed → ℕ
-nextOr n End = n
-nextOr n (Bad r) = n
-nextOr n (Next x next) = next
-
-module _ (at long o : ℕ) (y : Command) (x : Command) (next : ℕ) where
-  abbrev picked : Bool → Bool → Bool → Bool → Parsed
-  picked t u v w = cond t End (cond u (Bad (Unknown at)) (cond v (Bad (Short at)) (cond w (Next y (at + (1 + o))) (Bad (Beyond at)))))
-
-  not-end : {A : Type 0} → End ≡ Next x next → A
-  not-end e = let z : _≡_ {A = ℕ} 0 1 = cc in absurd (omega arith)
-
-  not-bad : {A : Type 0} (r : Refusal) → Bad r ≡ Next x next → A
-  not-bad r e = let z : _≡_ {A = ℕ} 0 1 = cc in absurd (omega arith)
-
-  within-by :
-      (t u v w : Bool) → (v ≡ false → o < long) → 3 * isRun y ≤ 1 + o → picked t u v w ≡ Next x next
-      → (at < next) × ((next ≤ at + long) × (at + 3 * isRun x ≤ next))
-  within-by true u v w h g e = not-end e
-  within-by false true v w h g e = not-bad (Unknown at) e
-  within-by false false true w h g e = not-bad (Short at) e
-  within-by false false false true h g e =
-      let n : at + (1 + o) ≡ next = ap (nextOr 0) e in
-      let c : isRun y ≡ isRun x = ap (λ (p : Parsed). isRun (commandOr x p)) e in
-      let short : o < long = h refl in
-      (omega arith, (omega arith, omega arith))
-  within-by false false false false h g e = not-bad (Beyond at) e
+pub numbered : (b : List ℕ) (n : ℕ) → 0 < operandsOf n → commandNumber (commandOf n b) ≡ n
+unfolding commandOf
+numbered b = by-number (λ (n : ℕ). commandNumber (commandOf n b) ≡ n) refl refl refl refl refl refl refl
 
 -- the next command stands behind this one, and within the card or at its end; a run takes three bytes
 pub next-within :
     (at : ℕ) (b : List ℕ) (x : Command) (next : ℕ) → parsedOf at b ≡ Next x next
     → (at < next) × ((next ≤ at + length b) × (at + 3 * isRun x ≤ next))
-unfolding parsedOf
 next-within at b x next e =
-    within-by at (length b) (operandsOf (byteFrom b 0)) (commandOf (byteFrom b 0) b) x next
-    (eqb (length b) 0) (eqb (operandsOf (byteFrom b 0)) 0) (leb (length b) (operandsOf (byteFrom b 0))) (goodOf (byteFrom b 0) b)
-    (λ f. leb-false (length b) (operandsOf (byteFrom b 0)) f) (run-long (byteFrom b 0) b) e
+    let w : Whole at b x next = whole at b x next e in
+    let run : 3 * isRun (commandOf (byteFrom b 0) b) ≤ 1 + operandsOf (byteFrom b 0) = run-long b (byteFrom b 0) (w .known) in
+    let three : 3 * isRun x ≤ 1 + operandsOf (byteFrom b 0) = rw (w .is) at run in
+    (omega arith, (omega arith, omega arith))
 
 parsed-nothing : (at : ℕ) → parsedOf at [] ≡ End
 unfolding parsedOf
@@ -144,7 +78,7 @@ alike :
     (p : Parsed) (f g : ℕ → Reading) → ((x : Command) (next : ℕ) → p ≡ Next x next → f next ≡ g next) → readBy p f ≡ readBy p g
 alike End f g h = refl
 alike (Bad r) f g h = refl
-alike (Next x next) f g h = ap (λ (r : Reading). reading (x ∷ r .commands) (r .verdict)) (h x next refl)
+alike (Next x next) f g h = ap (λ (r : Reading). reading (x ∷ r .commands) (r .validity)) (h x next refl)
 
 -- any number of commands that is enough gives the same
 enough : (n k : ℕ) (card : List ℕ) (at : ℕ) → length card ≤ at + n → length card ≤ at + k → readAtMost n card at ≡ readAtMost k card at
@@ -182,22 +116,22 @@ runs-within (suc n) card at =
     (runs-within n card)
 
 runs-short :
-    (t : Bool) (card : List ℕ) → (t ≡ true → length card ≤ 4096)
-    → 3 * runsIn ((cond t (readFrom card 0) (reading [] (Refused CardLength))) .commands) ≤ 4096
+    (t : Bool) (card : List ℕ) → (t ≡ true → length card ≤ cardSize)
+    → 3 * runsIn ((cond t (readFrom card 0) (reading [] (refused CardLength 0))) .commands) ≤ cardSize
 unfolding readFrom runsIn
 runs-short true card h = omega (arith, runs-within (length card) card 0, h refl)
 runs-short false card h = omega arith
 
 -- a card has at most 1,365 runs
-pub runs-bound : (card : List ℕ) → 3 * runsIn ((readingOf card) .commands) ≤ 4096
+pub runs-bound : (card : List ℕ) → 3 * runsIn ((readingOf card) .commands) ≤ cardSize
 unfolding readingOf
-runs-bound card = runs-short (leb (length card) 4096) card (leb-true (length card) 4096)
+runs-bound card = runs-short (leb (length card) cardSize) card (leb-true (length card) cardSize)
 
--- ---- playing
+-- ---- reports
 
 -- a run's report has 12 bytes, and no other command writes any
-pub reports-long : (x : Command) (st : State) (m : List ℕ) → length ((actOf x st m) .reports) ≡ 12 * isRun x
-unfolding actOf reportOf wordBytes
+pub reports-long : (x : Command) (st : State) (m : List ℕ) → length ((effectOf x st m) .reports) ≡ reportSize * isRun x
+unfolding effectOf reportOf wordBytes
 reports-long (Byte a v) st m = refl
 reports-long (Register n v) st m = refl
 reports-long (Lines lines v) st m = refl
@@ -207,35 +141,25 @@ reports-long (Mmu on) st m = refl
 reports-long (Flag w) st m = refl
 
 -- the reports of some commands
-pub all-reports-long : (xs : List Command) (st : State) (m : List ℕ) → length ((playOf xs st m) .reports) ≡ 12 * runsIn xs
-unfolding playOf runsIn
+pub all-reports-long : (xs : List Command) (st : State) (m : List ℕ) → length ((executeOf xs st m) .reports) ≡ reportSize * runsIn xs
+unfolding executeOf runsIn
 all-reports-long [] st m = refl
 all-reports-long (x ∷ xs) st m =
-    let done : Played = actOf x st m in
-    length-append (done .reports) ((playOf xs (done .state) (done .memory)) .reports)
+    let done : Effect = effectOf x st m in
+    length-append (done .reports) ((executeOf xs (done .state) (done .memory)) .reports)
     ∙ omega (arith, reports-long x st m, all-reports-long xs (done .state) (done .memory))
 
 -- ---- the answer and the part that is handed back
-
-refused-big : (r : Refusal) → 4294967296 ≤ answerOf r
-refused-big MemoryLength = omega arith
-refused-big ImageLength = omega arith
-refused-big Field = omega arith
-refused-big CardLength = omega arith
-refused-big (Unknown p) = omega arith
-refused-big (Short p) = omega arith
-refused-big (Beyond p) = omega arith
-refused-big ReportLength = omega arith
 
 in-front : (xs ys : List ℕ) (n : ℕ) → length xs ≡ n → (n ≤ length (xs ++ ys)) × (take n (xs ++ ys) ≡ xs)
 in-front xs ys n e = (omega (arith, length-append xs ys), take-at xs ys n e)
 
 handed-by :
-    (v : Verdict) (m b rep : List ℕ) (n : ℕ) (p : Played) → n < 4294967296 → length (p .reports) ≡ n
-    → (filledBy ((unlessRefused v m b rep (playedCall n p rep)) .answer) ≤ length ((unlessRefused v m b rep (playedCall n p rep)) .report))
-    × (take (filledBy ((unlessRefused v m b rep (playedCall n p rep)) .answer)) ((unlessRefused v m b rep (playedCall n p rep)) .report)
+    (v : Validity) (m b rep : List ℕ) (n : ℕ) (p : Effect) → n < 4294967296 → length (p .reports) ≡ n
+    → (filledBy ((unlessRefused v m b rep (executedCall n p rep)) .answer) ≤ length ((unlessRefused v m b rep (executedCall n p rep)) .report))
+    × (take (filledBy ((unlessRefused v m b rep (executedCall n p rep)) .answer)) ((unlessRefused v m b rep (executedCall n p rep)) .report)
     ≡ ifGood v (p .reports))
-handed-by (Refused r) m b rep n p h e = rw (le-ltb (answerOf r) 4294967296 (refused-big r)) (omega arith, refl)
+handed-by (Refused r) m b rep n p h e = rw (le-ltb (answerOf r) 4294967296 (answer-large r)) (omega arith, refl)
 handed-by Good m b rep n p h e = rw (lt-ltb n 4294967296 h) (in-front (p .reports) _ n e)
 
 -- the part that the answer says is filled is within the report, and holds the reports
@@ -245,7 +169,7 @@ module _ (m b card rep rep′ : List ℕ) (filled answer : ℕ) (f : filled ≡ 
       × (take (filledBy ((cardCall m b card rep) .answer)) ((cardCall m b card rep) .report) ≡ filledPart m b card rep)
   unfolding cardCall filledPart
   handed =
-      handed-by (testedOf (length m) b card (length rep)) m b rep (12 * runsIn ((readingOf card) .commands)) (playOf ((readingOf card) .commands) (stateFrom b) m)
+      handed-by (cardValid (length m) b card (length rep)) m b rep (reportSize * runsIn ((readingOf card) .commands)) (executeOf ((readingOf card) .commands) (stateFrom b) m)
       (omega (arith, runs-bound card))
       (all-reports-long ((readingOf card) .commands) (stateFrom b) m)
 
@@ -258,7 +182,7 @@ module _ (m b card rep rep′ : List ℕ) (filled answer : ℕ) (f : filled ≡ 
   pub part-holds : take filled rep′ ≡ filledPart m b card rep
   part-holds = rw (said, r) (handed .1)
 
-part-short-by : (v : Verdict) (bytes : List ℕ) (n : ℕ) → length bytes ≤ n → length (ifGood v bytes) ≤ n
+part-short-by : (v : Validity) (bytes : List ℕ) (n : ℕ) → length bytes ≤ n → length (ifGood v bytes) ≤ n
 part-short-by (Refused r) bytes n h = omega arith
 part-short-by Good bytes n h = h
 
@@ -266,5 +190,5 @@ part-short-by Good bytes n h = h
 pub part-short : (m b card rep : List ℕ) → length (filledPart m b card rep) ≤ 16380
 unfolding filledPart
 part-short m b card rep =
-    part-short-by (testedOf (length m) b card (length rep)) ((playOf ((readingOf card) .commands) (stateFrom b) m) .reports) 16380
+    part-short-by (cardValid (length m) b card (length rep)) ((executeOf ((readingOf card) .commands) (stateFrom b) m) .reports) 16380
     (omega (arith, all-reports-long ((readingOf card) .commands) (stateFrom b) m, runs-bound card))

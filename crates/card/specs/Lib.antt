@@ -1,5 +1,8 @@
 pub mod Call
 pub mod Card
 pub mod Command
+pub mod Effect
 pub mod Laws
-pub mod Play
+pub mod Parts
+pub mod Passed
+pub mod Whole

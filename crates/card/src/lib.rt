@@ -1,14 +1,14 @@
 // Bench cards: their commands, their tests, and what they do.
-mod acting;
-mod calling;
-mod parsing;
-mod testing;
+mod calls;
+mod effects;
+mod parser;
+mod tests;
 
-pub use calling::perform;
-pub use calling::run_card;
-use image::Refusal;
-use image::Verdict;
+pub use calls::perform;
+pub use calls::run_card;
 use machine::State;
+use refusal::Refusal;
+use refusal::Validity;
 
 // A command of a card, with its operands.
 pub enum Command {
@@ -40,8 +40,14 @@ pub enum Parsed {
 
 // The tests of a card by itself, and the number of its runs.
 pub struct Counted {
-    pub verdict: Verdict,
+    pub validity: Validity,
     pub runs: usize,
+}
+
+// The tests of a card's call, and the report bytes that its runs need.
+pub struct Tested {
+    pub validity: Validity,
+    pub needed: usize,
 }
 
 // The state after some commands, and how many report bytes are filled.

@@ -4,11 +4,13 @@ use mathlib.Core.Bool.{false, true≢false}
 use mathlib.Core.List.{List}
 use mathlib.Core.Path.{_≡_, refl, ap, sym, _∙_}
 use Prim.Native.Nat.{ℕ, suc, zero, _+_, _<_}
-use native.Mathlib.Nat.{zero-add}
+use native.Mathlib.Numerals.{one-add}
 use native.Mathlib.Omega.{arith}
 use Rattle.machine.specs.Answers.{statesOf}
-use Rattle.machine.specs.Run.{Ran, ran, runFrom, runOf, unlessEntered, unlessStopped}
+use Rattle.machine.specs.Kept.{entered-condition}
+use Rattle.machine.specs.Run.{Ran, iterate, ran, runFrom, runOf, unlessEntered, unlessStopped}
 use Rattle.machine.specs.Step.{stepOf}
+use Rattle.machine.specs.Through.{later, run-later}
 use Rattle.machine.specs.declared.Condition.{Condition}
 use Rattle.machine.specs.declared.Condition.the-variants as condition
 use Rattle.machine.specs.declared.Ending.{Ending}
@@ -16,23 +18,31 @@ use Rattle.machine.specs.declared.Ending.the-variants as ending
 use Rattle.machine.specs.declared.Event.{Event}
 use Rattle.machine.specs.declared.Event.the-variants as event
 use Rattle.machine.specs.declared.State.{State}
-use Rattle.counting.specs.Counted.{Counted, Ended, conditionAfter, entry, eventAt, iterate, statesSum}
-use Rattle.counting.specs.Entry.{entry-keeps}
+use Rattle.counting.specs.Statement.{Calm, CalmLast, Counted, Ended, Runs, conditionAfter, entry, eventAt, statesSum}
 
 -- ---- a run that ends where it starts
 
-here : (left : ℕ) (st : State) (m : List ℕ) (x : Ending) → Ended left st m 0 x → Counted left st m (ran st m 0 0 x)
-unfolding iterate statesSum
-here left st m x e =
-    record {
-      within = omega arith;
-      state = refl;
-      memory = refl;
-      states = refl;
-      running = λ k h. absurd (omega arith);
-      notEntered = λ k h. absurd (omega arith);
-      ended = e;
-    }
+module _ (left : ℕ) (st : State) (m : List ℕ) where
+  here : (x : Ending) → Ended left st m 0 x → Counted left st m (ran st m 0 0 x)
+  unfolding iterate statesSum
+  here x e =
+      record {
+        within = omega arith;
+        state = refl;
+        memory = refl;
+        states = refl;
+        running = λ k h. absurd (omega arith);
+        notEntered = λ k h. absurd (omega arith);
+        ended = e;
+      }
+
+  unless-stopped :
+      (c : Condition) (r : Ran) → st .condition ≡ c → (c ≡ condition.Running → Counted left st m r)
+      → Counted left st m (unlessStopped c st m 0 0 r)
+  unfolding iterate
+  unless-stopped condition.Running r e f = f refl
+  unless-stopped condition.Halted r e f = here ending.Halted e
+  unless-stopped condition.Lost r e f = here ending.Lost e
 
 -- ---- a step before a run
 
@@ -52,53 +62,45 @@ module _ (st : State) (m : List ℕ) where
   sum zero = omega arith
   sum (suc k) = omega (arith, sum k)
 
-  -- the run that a step and a run after it make
-  abbrev longer : Ran → Ran
-  longer r = ran (r .state) (r .memory) (suc (r .steps)) (statesOf did + r .states) (r .ending)
-
   module _ (left : ℕ) (on : st .condition ≡ condition.Running) where
-    calm-last :
-        entry did ≡ false → (n : ℕ) → ((k : ℕ) → n ≡ suc k → entry (eventAt k next nextMemory) ≡ false)
-        → (k : ℕ) → suc n ≡ suc k → entry (eventAt k st m) ≡ false
-    unfolding iterate
-    calm-last c n h zero e = c
-    calm-last c n h (suc k) e = h k (omega arith)
-
-    later : entry did ≡ false → (n : ℕ) (x : Ending) → Ended left next nextMemory n x → Ended (suc left) st m (suc n) x
-    unfolding iterate
-    later c n ending.Spent e = record { all = ap suc (e .all); running = e .running; notEntered = calm-last c n (e .notEntered) }
-    later c n (ending.Entered number pc flag) e =
-        record { last = suc (e .last); counted = ap suc (e .counted); event = e .event; running = e .running }
-    later c n ending.Halted e = e
-    later c n ending.Lost e = e
-
-    runs-on :
-        (n : ℕ) → ((k : ℕ) → k < n → conditionAfter k next nextMemory ≡ condition.Running)
-        → (k : ℕ) → k < suc n → conditionAfter k st m ≡ condition.Running
+    runs-on : (n : ℕ) → Runs n next nextMemory → Runs (suc n) st m
     unfolding iterate
     runs-on n h zero l = on
     runs-on n h (suc k) l = h k (omega arith)
 
-    calm-on :
-        entry did ≡ false → (n : ℕ) → ((k : ℕ) → k + 1 < n → entry (eventAt k next nextMemory) ≡ false)
-        → (k : ℕ) → k + 1 < suc n → entry (eventAt k st m) ≡ false
-    unfolding iterate
-    calm-on c n h zero l = c
-    calm-on c n h (suc k) l = h k (omega arith)
-
     -- the step was no entry, and the run goes on
-    goes-on : entry did ≡ false → (r : Ran) → Counted left next nextMemory r → Counted (suc left) st m (longer r)
-    unfolding iterate
-    goes-on c r x =
-        record {
-          within = omega arith;
-          state = x .state;
-          memory = x .memory;
-          states = omega (arith, sum (r .steps));
-          running = runs-on (r .steps) (x .running);
-          notEntered = calm-on c (r .steps) (x .notEntered);
-          ended = later c (r .steps) (r .ending) (x .ended);
-        }
+    module _ (calm : entry did ≡ false) where
+      calm-last : (n : ℕ) → CalmLast n next nextMemory → CalmLast (suc n) st m
+      unfolding iterate
+      calm-last n h zero e = calm
+      calm-last n h (suc k) e = h k (omega arith)
+
+      calm-on : (n : ℕ) → Calm n next nextMemory → Calm (suc n) st m
+      unfolding iterate
+      calm-on n h zero l = calm
+      calm-on n h (suc k) l = h k (omega arith)
+
+      ends : (n : ℕ) (x : Ending) → Ended left next nextMemory n x → Ended (suc left) st m (suc n) x
+      unfolding iterate
+      ends n ending.Spent e = record { all = omega arith; running = e .running; notEntered = calm-last n (e .notEntered) }
+      ends n (ending.Entered number pc flag) e =
+          record { last = suc (e .last); counted = ap suc (e .counted); event = e .event; running = e .running }
+      ends n ending.Halted e = e
+      ends n ending.Lost e = e
+
+      goes-on : (t : ℕ) → t ≡ statesOf did → (r : Ran) → Counted left next nextMemory r → Counted (suc left) st m (later 1 t r)
+      unfolding iterate
+      goes-on t e r x =
+          rw one-add
+          (record {
+            within = omega arith;
+            state = x .state;
+            memory = x .memory;
+            states = omega (arith, sum (r .steps));
+            running = runs-on (r .steps) (x .running);
+            notEntered = calm-on (r .steps) (x .notEntered);
+            ended = ends (r .steps) (r .ending) (x .ended);
+          })
 
     -- the step was an entry, and the run ends
     enters :
@@ -113,74 +115,28 @@ module _ (st : State) (m : List ℕ) where
           states = rw e;
           running = runs-on 0 (λ k h. absurd (omega arith));
           notEntered = λ k h. absurd (omega arith);
-          ended = record { last = 0; counted = refl; event = e; running = entry-keeps condition.Running m st on (ap entry e) };
+          ended = record { last = 0; counted = refl; event = e; running = entered-condition st m number pc flag e ∙ on };
         }
 
--- ---- a run that goes on from n steps done in t states
-
--- such a run is a counted one with n and t added
-record Found (left : ℕ) (st : State) (m : List ℕ) (n t : ℕ) (r : Ran) : Type 0 where
-  run : Ran
-  counts : Counted left st m run
-  same : r ≡ ran (run .state) (run .memory) (n + run .steps) (t + run .states) (run .ending)
-
-added : (st : State) (m : List ℕ) (n n′ t t′ : ℕ) (x : Ending) → n ≡ n′ → t ≡ t′ → ran st m n t x ≡ ran st m n′ t′ x
-added st m n n′ t t′ x e f = rw (e, f)
-
-module _ (left : ℕ) (st : State) (m : List ℕ) (n t : ℕ) where
-  stops : (x : Ending) → Ended left st m 0 x → Found left st m n t (ran st m n t x)
-  stops x e = record { run = ran st m 0 0 x; counts = here left st m x e; same = added st m _ _ _ _ x (omega arith) (omega arith) }
-
-  unless-stopped :
-      (c : Condition) (r : Ran) → st .condition ≡ c → (c ≡ condition.Running → Found left st m n t r)
-      → Found left st m n t (unlessStopped c st m n t r)
-  unfolding iterate
-  unless-stopped condition.Running r e f = f refl
-  unless-stopped condition.Halted r e f = stops ending.Halted e
-  unless-stopped condition.Lost r e f = stops ending.Lost e
-
-module _ (left : ℕ) (st : State) (m : List ℕ) (on : st .condition ≡ condition.Running) (n t : ℕ) where
-  calm :
-      (e : Event) (r : Ran) → did st m ≡ e → entry e ≡ false → Found left (next st m) (nextMemory st m) (n + 1) (t + statesOf e) r
-      → Found (suc left) st m n t r
-  calm e r d c f =
-      let q : Ran = f .run in
-      let cost : statesOf (did st m) ≡ statesOf e = ap statesOf d in
-      record {
-        run = longer st m q;
-        counts = goes-on st m left on (ap entry d ∙ c) q (f .counts);
-        same = f .same ∙ added (q .state) (q .memory) _ _ _ _ (q .ending) (omega arith) (omega arith);
-      }
-
-  unless-entered :
-      (e : Event) (r : Ran) → did st m ≡ e → Found left (next st m) (nextMemory st m) (n + 1) (t + statesOf e) r
-      → Found (suc left) st m n t (unlessEntered e (next st m) (nextMemory st m) (n + 1) (t + statesOf e) r)
-  unless-entered (event.Executed cost) r d f = calm (event.Executed cost) r d refl f
-  unless-entered (event.Entered number pc flag) r d f =
-      record {
-        run = ran (next st m) (nextMemory st m) 1 12 (ending.Entered number pc flag);
-        counts = enters st m left on number pc flag d;
-        same = refl;
-      }
-  unless-entered event.Halted r d f = calm event.Halted r d refl f
-  unless-entered event.Lost r d f = calm event.Lost r d refl f
-
--- a run, by its allowance
-found : (left : ℕ) (st : State) (m : List ℕ) (n t : ℕ) → Found left st m n t (runFrom left st m n t)
-unfolding runFrom iterate
-found zero st m n t =
-    unless-stopped zero st m n t (st .condition) _ refl
-    (λ e. stops zero st m n t ending.Spent (record { all = refl; running = e; notEntered = λ k h. absurd (omega arith) }))
-found (suc left) st m n t =
-    unless-stopped (suc left) st m n t (st .condition) _ refl
-    (λ e. unless-entered left st m e n t (did st m) _ refl (found left (next st m) (nextMemory st m) (n + 1) (t + statesOf (did st m))))
+    unless-entered :
+        (e : Event) (r : Ran) → did ≡ e → Counted left next nextMemory r
+        → let t : ℕ = 0 + statesOf e in Counted (suc left) st m (unlessEntered e next nextMemory 1 t (later 1 t r))
+    unless-entered (event.Executed cost) r d x = goes-on (rw d) _ (rw d (omega arith)) r x
+    unless-entered (event.Entered number pc flag) r d x = enters number pc flag d
+    unless-entered event.Halted r d x = goes-on (rw d) _ (rw d) r x
+    unless-entered event.Lost r d x = goes-on (rw d) _ (rw d) r x
 
 -- "Run's counted steps equal the number of definition steps to the named ending."
 pub counted : (allowance : ℕ) (st : State) (m : List ℕ) → Counted allowance st m (runOf allowance st m)
-unfolding runOf
-counted allowance st m =
-    let f : Found allowance st m 0 0 (runFrom allowance st m 0 0) = found allowance st m 0 0 in
-    rw (f .same) (simp zero-add (f .counts))
+unfolding runOf runFrom iterate
+counted zero st m =
+    unless-stopped zero st m (st .condition) _ refl
+    (λ e. here zero st m ending.Spent (record { all = refl; running = e; notEntered = λ k h. absurd (omega arith) }))
+counted (suc left) st m =
+    unless-stopped (suc left) st m (st .condition) _ refl
+    (λ e.
+    rw (run-later left (next st m) (nextMemory st m) 1 (0 + statesOf (did st m)))
+    (unless-entered st m left e (did st m) _ refl (counted left (next st m) (nextMemory st m))))
 
 -- ---- nothing is open
 
@@ -205,7 +161,7 @@ by-event event.Halted h = refl
 by-event event.Lost h = refl
 
 module _ (allowance : ℕ) (st : State) (m : List ℕ) where
-  spent : (n : ℕ) → ((k : ℕ) → n ≡ suc k → entry (eventAt k st m) ≡ false) → ending.Spent ≡ byCondition condition.Running n st m
+  spent : (n : ℕ) → CalmLast n st m → ending.Spent ≡ byCondition condition.Running n st m
   unfolding byCondition
   spent zero h = refl
   spent (suc k) h = by-event (eventAt k st m) (h k refl)

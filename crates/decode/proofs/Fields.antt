@@ -1,141 +1,192 @@
--- The table's rule at each entry: one test over the 256 first bytes, and the laws that turn it into what an entry's bits say.
+-- What an entry of the table says, by its bits, and the first word by its entry.
 -- Assumes nothing.
-use mathlib.Core.Bool.{Bool, Bool·beq, cond, false, true, _&&_, _||_}
+use mathlib.Core.Bool.{Bool, cond, false, true, _&&_, _||_}
 use mathlib.Core.List.{List}
 use mathlib.Core.Path.{ap, refl, sym, _∙_, _≡_}
-use Prim.Native.Nat.{suc, zero, ℕ, _%_, _+_, _/_, _<_}
+use Prim.Native.Nat.{suc, zero, ℕ, _%_, _*_, _+_, _/_, _<_}
 use native.Mathlib.Nat.{add-suc, add-zero, le-of-suc-le-suc, not-suc-le-zero, suc-add, zero-add}
 use native.Mathlib.Omega.{arith}
-use lib.Dec.{T, eqb, eqb→eq}
+use lib.Dec.{eqb, lit<}
 use lib.ListN.{getD}
 use Rattle.word.specs.Word.{upper}
-use Rattle.decode.specs.Cost.{costOf, costSingle}
-use Rattle.decode.specs.Decode.{fieldsBad, firstIn, firstOf, hasSecond, rdField, rxField, usesRd, usesRx}
-use Rattle.decode.specs.Entry.{entriesFrom, entryOf, packed, tableOf}
-use Rattle.decode.specs.Opcode.{Opcode, eight, findModed, findSingle, known, modeIn, moded, opcodeOf, row, singles, unknown}
+use Rattle.decode.specs.Decode.{fieldsBad, firstIn, firstOf, hasSecond, rdBad, rdField, rxField, usesRx}
+use Rattle.decode.specs.Entry.{accessNumber, entriesFrom, entryOf, flag, flowNumber, packed, privilegeNumber, rdNumber, tableOf}
+use Rattle.decode.specs.Instructions.{Opcode, RdUse, Row, condition, costOf, known, opcodeOf, register, unknown, unused}
+use Rattle.decode.specs.Laws.{OpcodeHas, Small, all-small, opcode-has, small, small-row}
+use Rattle.decode.specs.Numbers.{access-back, accessFrom, flow-back, flowFrom, privilege-back, privilegeFrom}
+use Rattle.decode.specs.declared.DataAccess.{DataAccess}
+use Rattle.decode.specs.declared.DataAccess.the-variants.{Destination, Flag, None, Pop, PopTwo, Push, Source}
 use Rattle.decode.specs.declared.First.{First}
 use Rattle.decode.specs.declared.First.the-variants.{Defined, Undefined}
+use Rattle.decode.specs.declared.Flow.{Flow}
+use Rattle.decode.specs.declared.Flow.the-variants.{Call, Divide, Jump, Next, Resume, Return, Shift, Trap}
+use Rattle.decode.specs.declared.Privilege.{Privilege}
+use Rattle.decode.specs.declared.Privilege.the-variants.{Anyone, Kernel, Ports}
 use Rattle.decode.specs.declared.Shape.{Shape}
 
--- ---- a test of every number below a bound
+-- ---- an entry's fields, as they are taken out of it
 
-both-left : (a b : Bool) → T (a && b) → T a
-both-left true b t = tt
-both-left false b t = t
-
-both-right : (a b : Bool) → T (a && b) → T b
-both-right true b t = t
-both-right false b t = absurd t
-
--- f holds of each of the n numbers from i on
-abbrev allFrom : (ℕ → Bool) → ℕ → ℕ → Bool
-allFrom f i zero = true
-allFrom f i (suc n) = f i && allFrom f (suc i) n
-
-all-from : (f : ℕ → Bool) (n i : ℕ) → T (allFrom f i n) → (k : ℕ) → k < n → T (f (i + k))
-all-from f zero i t k h = absurd (not-suc-le-zero h)
-all-from f (suc n) i t zero h = rw (add-zero i) (both-left (f i) (allFrom f (suc i) n) t)
-all-from f (suc n) i t (suc k) h =
-    rw (add-suc i k, ← suc-add i k) (all-from f n (suc i) (both-right (f i) (allFrom f (suc i) n) t) k (le-of-suc-le-suc h))
-
--- ---- what an entry says, by its bits
-
--- an entry's fields, as they are taken out of it
-pub record Bits (e code kind : ℕ) : Type 0 where
+record Bits (e code m x w cost u p a f : ℕ) : Type 0 where
   pub number : e % 32 ≡ code
-  pub kinds : e / 32 % 16 ≡ kind
-  pub rd : eqb (e / 512 % 2) 1 ≡ usesRd code
-  pub rx : eqb (e / 1024 % 2) 1 ≡ usesRx kind
-  pub second : eqb (e / 2048 % 2) 1 ≡ hasSecond kind
-  pub known : eqb (e / 4096 % 2) 0 ≡ false
-  pub states : e / 8192 % 128 ≡ costOf code kind
+  pub mode : e / 0x20 % 16 ≡ m
+  pub rx : e / 0x200 % 2 ≡ x
+  pub second : e / 0x400 % 2 ≡ w
+  pub known : e / 0x800 % 2 ≡ 1
+  pub states : e / 0x1000 % 128 ≡ cost
+  pub rd : e / 0x80000 % 4 ≡ u
+  pub privilege : e / 0x200000 % 4 ≡ p
+  pub access : e / 0x800000 % 8 ≡ a
+  pub flow : e / 0x4000000 % 8 ≡ f
 
-agreesAt : ℕ → ℕ → ℕ → Bool
-agreesAt e code kind =
-    eqb (e % 32) code
-    && (eqb (e / 32 % 16) kind
-    && (Bool·beq (eqb (e / 512 % 2) 1) (usesRd code)
-    && (Bool·beq (eqb (e / 1024 % 2) 1) (usesRx kind)
-    && (Bool·beq (eqb (e / 2048 % 2) 1) (hasSecond kind)
-    && (Bool·beq (eqb (e / 4096 % 2) 0) false
-    && eqb (e / 8192 % 128) (costOf code kind))))))
-
-abbrev agreesIn : Opcode → Bool
-agreesIn unknown = true
-agreesIn (known code kind) = agreesAt (packed (known code kind)) code kind
-
-agrees : ℕ → Bool
-agrees byte = agreesIn (opcodeOf byte)
-
--- the test over all 256 first bytes
-tested : T (allFrom agrees 0 256)
-unfolding agrees agreesAt opcodeOf findModed findSingle modeIn moded singles row eight usesRd usesRx hasSecond costOf costSingle
-tested = tt
-
-beq-eq : (a b : Bool) → T (Bool·beq a b) → a ≡ b
-beq-eq true true t = refl
-beq-eq true false t = absurd t
-beq-eq false true t = absurd t
-beq-eq false false t = refl
-
-bits : (e code kind : ℕ) → T (agreesAt e code kind) → Bits e code kind
-unfolding agreesAt
-bits e code kind t =
-    let states : Bool = eqb (e / 8192 % 128) (costOf code kind) in
-    let known : Bool = Bool·beq (eqb (e / 4096 % 2) 0) false in
-    let second : Bool = Bool·beq (eqb (e / 2048 % 2) 1) (hasSecond kind) in
-    let rx : Bool = Bool·beq (eqb (e / 1024 % 2) 1) (usesRx kind) in
-    let rd : Bool = Bool·beq (eqb (e / 512 % 2) 1) (usesRd code) in
-    let kinds : Bool = eqb (e / 32 % 16) kind in
-    let number : Bool = eqb (e % 32) code in
-    let t1 = both-right number (kinds && (rd && (rx && (second && (known && states))))) t in
-    let t2 = both-right kinds (rd && (rx && (second && (known && states)))) t1 in
-    let t3 = both-right rd (rx && (second && (known && states))) t2 in
-    let t4 = both-right rx (second && (known && states)) t3 in
-    let t5 = both-right second (known && states) t4 in
+bits :
+    (code m x w cost u p a f : ℕ)
+    → code < 32
+    → m < 9
+    → x < 2
+    → w < 2
+    → cost < 128
+    → u < 4
+    → p < 4
+    → a < 8
+    → f < 8
+    → Bits
+    (code + 0x20 * m + 0x200 * x + 0x400 * w + 0x800 + 0x1000 * cost + 0x80000 * u + 0x200000 * p + 0x800000 * a + 0x4000000 * f)
+    code
+    m
+    x
+    w
+    cost
+    u
+    p
+    a
+    f
+bits code m x w cost u p a f h1 h2 h3 h4 h5 h6 h7 h8 h9 =
     record {
-      number = eqb→eq _ _ (both-left number _ t);
-      kinds = eqb→eq _ _ (both-left kinds _ t1);
-      rd = beq-eq _ _ (both-left rd _ t2);
-      rx = beq-eq _ _ (both-left rx _ t3);
-      second = beq-eq _ _ (both-left second _ t4);
-      known = beq-eq _ _ (both-left known _ t5);
-      states = eqb→eq _ _ (both-right known _ t5);
+      number = omega arith;
+      mode = omega arith;
+      rx = omega arith;
+      second = omega arith;
+      known = omega arith;
+      states = omega arith;
+      rd = omega arith;
+      privilege = omega arith;
+      access = omega arith;
+      flow = omega arith;
     }
+
+flag-small : (t : Bool) → flag t < 2
+flag-small true = lit< tt
+flag-small false = lit< tt
+
+rd-small : (u : RdUse) → rdNumber u < 4
+rd-small unused = lit< tt
+rd-small register = lit< tt
+rd-small condition = lit< tt
+
+privilege-small : (p : Privilege) → privilegeNumber p < 4
+privilege-small Anyone = lit< tt
+privilege-small Ports = lit< tt
+privilege-small Kernel = lit< tt
+
+access-small : (a : DataAccess) → accessNumber a < 8
+access-small None = lit< tt
+access-small Flag = lit< tt
+access-small Source = lit< tt
+access-small Destination = lit< tt
+access-small Push = lit< tt
+access-small Pop = lit< tt
+access-small PopTwo = lit< tt
+
+flow-small : (f : Flow) → flowNumber f < 8
+flow-small Next = lit< tt
+flow-small Jump = lit< tt
+flow-small Call = lit< tt
+flow-small Return = lit< tt
+flow-small Resume = lit< tt
+flow-small Trap = lit< tt
+flow-small Divide = lit< tt
+flow-small Shift = lit< tt
 
 -- ---- the first word by its entry
 
 abbrev pub badEntry : ℕ → ℕ → ℕ → Bool
 badEntry e rd rx =
-    (eqb rd 15 && eqb (e / 512 % 2) 1) || ((eqb rx 15 && eqb (e / 1024 % 2) 1) || (eqb rd 13 && eqb (e % 32) 20))
+    ((eqb rd 15 && eqb (e / 0x80000 % 4) 1) || (eqb rd 13 && eqb (e / 0x80000 % 4) 2)) || (eqb rx 15 && eqb (e / 0x200 % 2) 1)
 
 abbrev pub shapeEntry : ℕ → ℕ → Shape
 shapeEntry e w =
     record {
       code = e % 32;
-      kind = e / 32 % 16;
+      mode = e / 0x20 % 16;
       rd = rdField w;
       rx = rxField w;
-      second = eqb (e / 2048 % 2) 1;
-      cost = e / 8192 % 128;
+      second = eqb (e / 0x400 % 2) 1;
+      cost = e / 0x1000 % 128;
+      privilege = privilegeFrom (e / 0x200000 % 4);
+      access = accessFrom (e / 0x800000 % 8);
+      flow = flowFrom (e / 0x4000000 % 8);
     }
 
 abbrev pub firstEntry : ℕ → ℕ → First
 firstEntry e w =
-    cond (eqb (e / 4096 % 2) 0) Undefined
+    cond (eqb (e / 0x800 % 2) 0) Undefined
     (cond (badEntry e (rdField w) (rxField w)) Undefined (Defined (shapeEntry e w)))
 
-by-bits : (e code kind w : ℕ) → Bits e code kind → firstIn (known code kind) w ≡ firstEntry e w
+pub entry-bad : (e w : ℕ) → eqb (e / 0x800 % 2) 0 ≡ false → badEntry e (rdField w) (rxField w) ≡ true → firstEntry e w ≡ Undefined
+entry-bad e w h bad = rw (h, bad)
+
+pub entry-good : (e w : ℕ) → eqb (e / 0x800 % 2) 0 ≡ false → badEntry e (rdField w) (rxField w) ≡ false → firstEntry e w ≡ Defined (shapeEntry e w)
+entry-good e w h good = rw (h, good)
+
+flag-back : (t : Bool) → eqb (flag t) 1 ≡ t
+flag-back true = refl
+flag-back false = refl
+
+only-left : (a b : Bool) → (a && true) || (b && false) ≡ a
+only-left true b = refl
+only-left false true = refl
+only-left false false = refl
+
+only-right : (a b : Bool) → (a && false) || (b && true) ≡ b
+only-right true true = refl
+only-right true false = refl
+only-right false true = refl
+only-right false false = refl
+
+neither : (a b : Bool) → (a && false) || (b && false) ≡ false
+neither true true = refl
+neither true false = refl
+neither false true = refl
+neither false false = refl
+
+rd-back : (u : RdUse) (n : ℕ) → (eqb n 15 && eqb (rdNumber u) 1) || (eqb n 13 && eqb (rdNumber u) 2) ≡ rdBad u n
+rd-back register n = only-left (eqb n 15) (eqb n 13)
+rd-back condition n = only-right (eqb n 15) (eqb n 13)
+rd-back unused n = neither (eqb n 15) (eqb n 13)
+
+by-row : (r : Row) (m w : ℕ) → Small r m → firstIn (known r m) w ≡ firstEntry (packed (known r m)) w
 unfolding fieldsBad
-by-bits e code kind w b = rw (b .known, b .number, b .kinds, b .rd, b .rx, b .second, b .states)
+by-row r m w h =
+    let b =
+    bits (r .code) m (flag (usesRx m)) (flag (hasSecond m)) (costOf r m) (rdNumber (r .rd)) (privilegeNumber (r .privilege))
+    (accessNumber (r .access))
+    (flowNumber (r .flow))
+    (h .code)
+    (h .mode)
+    (flag-small (usesRx m))
+    (flag-small (hasSecond m))
+    (h .cost)
+    (rd-small (r .rd))
+    (privilege-small (r .privilege))
+    (access-small (r .access))
+    (flow-small (r .flow)) in
+    rw (b .known, b .number, b .mode, b .rx, b .second, b .states, b .rd, b .privilege, b .access, b .flow)
+    (rw (flag-back (usesRx m), flag-back (hasSecond m), rd-back (r .rd) (rdField w))
+    (rw (privilege-back (r .privilege), access-back (r .access), flow-back (r .flow))))
 
-by-opcode : (o : Opcode) (w : ℕ) → T (agreesIn o) → firstIn o w ≡ firstEntry (packed o) w
-by-opcode unknown w t = refl
-by-opcode (known code kind) w t = by-bits _ code kind w (bits _ code kind t)
-
-by-byte : (byte w : ℕ) → T (agrees byte) → firstIn (opcodeOf byte) w ≡ firstEntry (entryOf byte) w
-unfolding agrees entryOf
-by-byte byte w t = by-opcode (opcodeOf byte) w t
+by-opcode : (o : Opcode) (w : ℕ) → OpcodeHas small o → firstIn o w ≡ firstEntry (packed o) w
+by-opcode unknown w h = refl
+by-opcode (known r m) w h = by-row r m w (small-row r m h)
 
 entries-at : (n i k : ℕ) → k < n → getD (entriesFrom i n) k 0 ≡ entryOf (i + k)
 unfolding entriesFrom
@@ -144,9 +195,9 @@ entries-at (suc n) i zero h = rw (add-zero i)
 entries-at (suc n) i (suc k) h = entries-at n (suc i) k (le-of-suc-le-suc h) ∙ ap entryOf (suc-add i k ∙ sym (add-suc i k))
 
 by-table : (w : ℕ) → upper w < 256 → firstOf w ≡ firstEntry (getD tableOf (upper w) 0) w
-unfolding firstOf tableOf
+unfolding firstOf tableOf entryOf
 by-table w h =
-    by-byte (upper w) w (rw (zero-add (upper w)) at (all-from agrees 256 0 tested (upper w) h))
+    by-opcode (opcodeOf (upper w)) w (opcode-has small all-small (upper w))
     ∙ ap (λ (e : ℕ). firstEntry e w) (ap entryOf (sym (zero-add (upper w))) ∙ sym (entries-at 256 0 (upper w) h))
 
 -- what the first word says, by the entry for its upper byte

@@ -1,5 +1,6 @@
 pub mod Code
-pub mod Cost
 pub mod Decode
 pub mod Entry
-pub mod Opcode
+pub mod Instructions
+pub mod Laws
+pub mod Numbers

@@ -1,12 +1,12 @@
 // Instruction words: the decoding table, the first word, the operand.
-ghost use mathlib.Core.Path.{_≡_};
-ghost use lib.IntN.{pos, _*ℤ_};
-ghost use Rattle.decode.specs.Decode as def;
-ghost use Rattle.decode.specs.Entry.{tableOf};
-ghost use Rattle.word.specs.Signed.{signed4};
-
+pub mod code;
+mod opcode;
+mod operands;
 mod table;
 
+pub use opcode::first_word;
+pub use operands::decoded;
+pub use operands::operand_from;
 pub use table::entries;
 
 // One of eight operand kinds with its own data, or none.
@@ -28,88 +28,78 @@ pub enum Operand {
     Nothing,
 }
 
+// Who may use an instruction.
+pub enum Privilege {
+    Anyone,
+    // P=1 or I=1.
+    Ports,
+    // P=1.
+    Kernel,
+}
+
+// The data access of an instruction.
+pub enum DataAccess {
+    None,
+    // No access: FLAG's value is the source.
+    Flag,
+    // The operand is read.
+    Source,
+    // Rd is written to the operand's place.
+    Destination,
+    // A word is written below SP.
+    Push,
+    // The word at SP is read.
+    Pop,
+    // The words at SP and at SP+2 are read.
+    PopTwo,
+}
+
+// How an instruction goes on.
+pub enum Flow {
+    // At the following instruction.
+    Next,
+    // At the operand's address if the condition holds.
+    Jump,
+    // At the operand's address.
+    Call,
+    // At the word that was read.
+    Return,
+    // At the second word that was read.
+    Resume,
+    // In the kernel.
+    Trap,
+    // At the following instruction, unless the divisor is 0.
+    Divide,
+    // At the following instruction, after more states for each place.
+    Shift,
+}
+
 // A decoded instruction.
 pub struct Instruction {
     pub code: u8,
     pub rd: u8,
     pub operand: Operand,
+    // Its states, a shift's without its places and a jump's where it is not taken.
+    pub cost: u8,
+    pub access: DataAccess,
+    pub flow: Flow,
 }
 
-// What the first word of a defined instruction says: its number, the kind of its operand, its two fields, whether a second word
-// follows, and its states, a shift's without its places and a jump's where it is not taken.
+// What the first word of a defined instruction says: its number, its mode (8 where it has no operand), its two fields, whether a second word
+// follows, its states, its privilege, its data access and how it goes on.
 pub struct Shape {
     pub code: u8,
-    pub kind: u8,
+    pub mode: u8,
     pub rd: u8,
     pub rx: u8,
     pub second: bool,
     pub cost: u8,
+    pub privilege: Privilege,
+    pub access: DataAccess,
+    pub flow: Flow,
 }
 
 pub enum First {
     Undefined,
     Defined(Shape),
-}
-
-// The first word of an instruction.
-pub fn first_word(table: &[u32; 256], word: u16) -> First
-    requires { ⌜ now table ≡ tableOf ⌝ }
-    ensures { λ r. ⌜ r ≡ def.firstOf word ⌝ }
-{
-    let byte = (word / 256) as usize;
-    let entry = table[byte];
-    if entry / 4096 % 2 == 0 {
-        return First::Undefined;
-    }
-    let rd = word / 16 % 16;
-    let rx = word % 16;
-    let bad_rd = (rd == 15) & (entry / 512 % 2 == 1);
-    let bad_rx = (rx == 15) & (entry / 1024 % 2 == 1);
-    let bad_condition = (rd == 13) & (entry % 32 == 20);
-    if bad_rd | (bad_rx | bad_condition) {
-        return First::Undefined;
-    }
-    First::Defined(Shape {
-        code: (entry % 32) as u8,
-        kind: (entry / 32 % 16) as u8,
-        rd: rd as u8,
-        rx: rx as u8,
-        second: entry / 2048 % 2 == 1,
-        cost: (entry / 8192 % 128) as u8,
-    })
-}
-
-// Twice D4.
-fn frame_offset(field: u16) -> i16
-    ensures { λ r. ⌜ r ≡ signed4 field *ℤ pos 2 ⌝ }
-{
-    word::four_bits(field) * 2
-}
-
-// The operand of a kind, from the last field and the second word.
-pub fn operand_from(kind: u8, rx: u8, second: u16) -> Operand
-    ensures { λ r. ⌜ r ≡ def.operandOf kind rx second ⌝ }
-{
-    match kind {
-        0 => Operand::Direct(second),
-        1 => Operand::Indexed(second, rx),
-        2 => Operand::Immediate(second),
-        3 => Operand::Frame(frame_offset(rx as u16)),
-        4 => Operand::Register(rx),
-        5 => Operand::Short(word::four_bits(rx as u16)),
-        6 => Operand::Indirect(rx),
-        7 => Operand::ByteIndirect(rx),
-        _ => Operand::Nothing,
-    }
-}
-
-// The instruction of a first word and a second one, which is 0 where there is none.
-pub fn decoded(shape: Shape, second: u16) -> Instruction
-    ensures { λ r. ⌜ r ≡ def.instructionOf shape second ⌝ }
-{
-    Instruction {
-        code: shape.code,
-        rd: shape.rd,
-        operand: operand_from(shape.kind, shape.rx, second),
-    }
 }

@@ -1,12 +1,6 @@
-pub mod Access
-pub mod Cases
-pub mod Demand
-pub mod Onward
-pub mod PlanKeeps
-pub mod PlanSame
-pub mod Reads
+pub mod Confidentiality
+pub mod Integrity
+pub mod Isolation
 pub mod Rights
-pub mod Stays
-pub mod Steps
+pub mod Statement
 pub mod Stores
-pub mod Theorem

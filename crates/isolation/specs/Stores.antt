@@ -1,118 +1,121 @@
--- Stores: what two memories agree on they agree on after the same store, and a store changes only its own bytes.
+-- Stores: a store keeps memory's length and all but its own bytes, and two memories agree after it wherever they did before.
 -- Assumes nothing.
 use mathlib.Core.Bool.{Bool, false, true, true≢false}
-use mathlib.Core.List.{List}
+use mathlib.Core.List.{List, [], _∷_}
 use mathlib.Core.Logic.{_⊎_, inl, inr}
 use mathlib.Core.Path.{_≡_, refl, ap, sym, _∙_}
-use Prim.Native.Nat.{ℕ, _<_}
+use Prim.Native.Nat.{ℕ, suc, zero}
 use native.Mathlib.Omega.{arith}
 use borrow.Author.Tests.{eqb-false, eqb-true}
 use lib.Dec.{eqb}
 use lib.ListN.{getD, length, length-set, set}
-use lib.Seq.{getD-set-other, getD-set-same}
+use lib.Seq.{getD-set-other}
 use Rattle.machine.specs.Enter.{pushed}
-use Rattle.machine.specs.Memory.{storeWord, stored}
-use Rattle.machine.specs.declared.Right.the-variants.{Write}
-use Rattle.machine.specs.declared.Store.{Store}
-use Rattle.machine.specs.declared.Store.the-variants.{Byte, Nothing, Word}
+use Rattle.mmu.specs.Memory.{storeWord, stored}
+use Rattle.mmu.specs.declared.Right.the-variants.{Write}
+use Rattle.mmu.specs.declared.Store.{Store}
+use Rattle.mmu.specs.declared.Store.the-variants.{Byte, Nothing, Word}
 use Rattle.word.specs.Word.{lower, minus, plus, upper}
-use Rattle.isolation.specs.Access.{ByteIn}
-use Rattle.isolation.specs.Demand.{hasRight}
-use Rattle.isolation.specs.PlanKeeps.{StoreIn}
-use Rattle.isolation.specs.Reads.{second-in}
+use Rattle.isolation.specs.Rights.{ByteIn}
+use Rattle.isolation.specs.Statement.{Pushed, hasRight}
 
--- a number is another, or is not
-pub equal : (a b : ℕ) → (a ≡ b) ⊎ (a ≡ b → ⊥)
-equal a b = by (eqb a b) refl
-  where
-    by : (t : Bool) → eqb a b ≡ t → (a ≡ b) ⊎ (a ≡ b → ⊥)
-    by true e = inl (eqb-true a b e)
-    by false e = inr (eqb-false a b e)
+-- ---- lengths
 
--- ---- a byte, and a word
+word-long : (m : List ℕ) (i v : ℕ) → length (storeWord m i v) ≡ length m
+word-long m i v = length-set (set m i (upper v)) (plus i 1) (lower v) ∙ length-set m i (upper v)
 
--- a memory of 64 KiB
-abbrev Long : List ℕ → Type 0
-Long m = length m ≡ 65536
+pub pushed-long : (ssp flag saved : ℕ) (m : List ℕ) → length (pushed ssp flag saved m) ≡ length m
+unfolding pushed
+pushed-long ssp flag saved m = word-long (storeWord m (minus ssp 2) saved) (minus ssp 4) flag ∙ word-long m (minus ssp 2) saved
 
-set-long : (m : List ℕ) (i v : ℕ) → Long m → Long (set m i v)
-set-long m i v h = length-set m i v ∙ h
+-- ---- two memories of one length
 
-word-long : (m : List ℕ) (i v : ℕ) → Long m → Long (storeWord m i v)
-word-long m i v h = set-long (set m i (upper v)) (plus i 1) (lower v) (set-long m i (upper v) h)
+abbrev Agree : ℕ → List ℕ → List ℕ → Type 0
+Agree a m m′ = getD m a 0 ≡ getD m′ a 0
 
-set-agree :
-    (m m′ : List ℕ) → Long m → Long m′ → (i v a : ℕ) → i < 65536 → getD m a 0 ≡ getD m′ a 0 → getD (set m i v) a 0 ≡ getD (set m′ i v) a 0
-set-agree m m′ h h′ i v a inside e = by (equal a i)
-  where
-    by : (a ≡ i) ⊎ (a ≡ i → ⊥) → getD (set m i v) a 0 ≡ getD (set m′ i v) a 0
-    by (inl q) = rw q (getD-set-same m i v 0 (omega arith) ∙ sym (getD-set-same m′ i v 0 (omega arith)))
-    by (inr q) = getD-set-other m i a v 0 q ∙ e ∙ sym (getD-set-other m′ i a v 0 q)
+set-agree : (m m′ : List ℕ) (i v a : ℕ) → length m ≡ length m′ → Agree a m m′ → Agree a (set m i v) (set m′ i v)
+set-agree [] [] i v a l e = e
+set-agree [] (y ∷ ys) i v a l e = absurd (omega arith)
+set-agree (x ∷ xs) [] i v a l e = absurd (omega arith)
+set-agree (x ∷ xs) (y ∷ ys) zero v zero l e = refl
+set-agree (x ∷ xs) (y ∷ ys) zero v (suc a) l e = e
+set-agree (x ∷ xs) (y ∷ ys) (suc i) v zero l e = e
+set-agree (x ∷ xs) (y ∷ ys) (suc i) v (suc a) l e = set-agree xs ys i v a (omega arith) e
 
-word-agree :
-    (m m′ : List ℕ) → Long m → Long m′ → (i v a : ℕ) → i < 65536 → getD m a 0 ≡ getD m′ a 0 →
-    getD (storeWord m i v) a 0 ≡ getD (storeWord m′ i v) a 0
-word-agree m m′ h h′ i v a inside e =
-    set-agree (set m i (upper v)) (set m′ i (upper v)) (set-long m i (upper v) h) (set-long m′ i (upper v) h′) (plus i 1) (lower v) a (omega arith)
-    (set-agree m m′ h h′ i (upper v) a inside e)
+word-agree : (m m′ : List ℕ) (i v a : ℕ) → length m ≡ length m′ → Agree a m m′ → Agree a (storeWord m i v) (storeWord m′ i v)
+word-agree m m′ i v a l e =
+    set-agree (set m i (upper v)) (set m′ i (upper v)) (plus i 1) (lower v) a (length-set m i (upper v) ∙ l ∙ sym (length-set m′ i (upper v)))
+    (set-agree m m′ i (upper v) a l e)
 
-word-kept : (m : List ℕ) (i v a : ℕ) → (a ≡ i → ⊥) → (a ≡ plus i 1 → ⊥) → getD (storeWord m i v) a 0 ≡ getD m a 0
-word-kept m i v a p q = getD-set-other (set m i (upper v)) (plus i 1) a (lower v) 0 q ∙ getD-set-other m i a (upper v) 0 p
-
--- ---- an instruction's store, into frames with the write right
-
-pub stored-long : (s : Store) (m : List ℕ) → length m ≡ 65536 → length (stored s m) ≡ 65536
+pub stored-agree : (s : Store) (m m′ : List ℕ) (a : ℕ) → length m ≡ length m′ → Agree a m m′ → Agree a (stored s m) (stored s m′)
 unfolding stored
-stored-long Nothing m h = h
-stored-long (Word a v) m h = word-long m a v h
-stored-long (Byte a v) m h = set-long m a (lower v) h
+stored-agree Nothing m m′ a l e = e
+stored-agree (Word i v) m m′ a l e = word-agree m m′ i v a l e
+stored-agree (Byte i v) m m′ a l e = set-agree m m′ i (lower v) a l e
+
+pub pushed-agree :
+    (ssp flag saved : ℕ) (m m′ : List ℕ) (a : ℕ) → length m ≡ length m′ → Agree a m m′
+    → Agree a (pushed ssp flag saved m) (pushed ssp flag saved m′)
+unfolding pushed
+pushed-agree ssp flag saved m m′ a l e =
+    word-agree (storeWord m (minus ssp 2) saved) (storeWord m′ (minus ssp 2) saved) (minus ssp 4) flag a
+    (word-long m (minus ssp 2) saved ∙ l ∙ sym (word-long m′ (minus ssp 2) saved))
+    (word-agree m m′ (minus ssp 2) saved a l e)
+
+-- ---- one memory: a byte is as before, or is one that is stored
+
+set-kept : (m : List ℕ) (i v a : ℕ) → (getD (set m i v) a 0 ≡ getD m a 0) ⊎ (a ≡ i)
+set-kept m i v a = by (eqb a i) refl
+  where
+    by : (t : Bool) → eqb a i ≡ t → (getD (set m i v) a 0 ≡ getD m a 0) ⊎ (a ≡ i)
+    by true e = inr (eqb-true a i e)
+    by false e = inl (getD-set-other m i a v 0 (eqb-false a i e))
+
+word-kept : (m : List ℕ) (i v a : ℕ) → (getD (storeWord m i v) a 0 ≡ getD m a 0) ⊎ ((a ≡ i) ⊎ (a ≡ plus i 1))
+word-kept m i v a = by (set-kept (set m i (upper v)) (plus i 1) (lower v) a) (set-kept m i (upper v) a)
+  where
+    by :
+        (getD (storeWord m i v) a 0 ≡ getD (set m i (upper v)) a 0) ⊎ (a ≡ plus i 1) → (getD (set m i (upper v)) a 0 ≡ getD m a 0) ⊎ (a ≡ i)
+        → (getD (storeWord m i v) a 0 ≡ getD m a 0) ⊎ ((a ≡ i) ⊎ (a ≡ plus i 1))
+    by (inr e) _ = inr (inr e)
+    by (inl p) (inr e) = inr (inl e)
+    by (inl p) (inl q) = inl (p ∙ q)
+
+pub pushed-kept : (ssp flag saved : ℕ) (m : List ℕ) (a : ℕ) → (getD (pushed ssp flag saved m) a 0 ≡ getD m a 0) ⊎ Pushed ssp a
+unfolding pushed
+pushed-kept ssp flag saved m a = by (word-kept (storeWord m (minus ssp 2) saved) (minus ssp 4) flag a) (word-kept m (minus ssp 2) saved a)
+  where
+    by :
+        {x y z : ℕ} → (x ≡ y) ⊎ ((a ≡ minus ssp 4) ⊎ (a ≡ plus (minus ssp 4) 1))
+        → (y ≡ z) ⊎ ((a ≡ minus ssp 2) ⊎ (a ≡ plus (minus ssp 2) 1)) → (x ≡ z) ⊎ Pushed ssp a
+    by (inl p) (inl q) = inl (p ∙ q)
+    by (inr (inl e)) _ = inr (inl e)
+    by (inr (inr e)) _ = inr (inr (inl (omega arith)))
+    by (inl p) (inr (inl e)) = inr (inr (inr (inl e)))
+    by (inl p) (inr (inr e)) = inr (inr (inr (inr (omega arith))))
+
+-- a store that leaves every frame without the write right as it is
+abbrev pub Spares : List ℕ → Store → Type 0
+Spares tlb s = (m : List ℕ) (a : ℕ) → hasRight tlb Write (upper a) ≡ false → getD (stored s m) a 0 ≡ getD m a 0
 
 module _ (tlb : List ℕ) where
-  pub stored-agree :
-      (s : Store) → StoreIn tlb s → (m m′ : List ℕ) → length m ≡ 65536 → length m′ ≡ 65536 → (a : ℕ) → getD m a 0 ≡ getD m′ a 0 →
-      getD (stored s m) a 0 ≡ getD (stored s m′) a 0
+  -- a byte with the right is none without it
+  apart : {a p : ℕ} → hasRight tlb Write (upper a) ≡ false → ByteIn tlb Write p → a ≡ p → ⊥
+  apart h b e = true≢false (sym (b .allowed) ∙ ap (λ (n : ℕ). hasRight tlb Write (upper n)) (sym e) ∙ h)
+
+  pub spares-nothing : Spares tlb Nothing
   unfolding stored
-  stored-agree Nothing w m m′ h h′ a e = e
-  stored-agree (Word i v) w m m′ h h′ a e = word-agree m m′ h h′ i v a (w .first .inside) e
-  stored-agree (Byte i v) w m m′ h h′ a e = set-agree m m′ h h′ i (lower v) a (w .inside) e
+  spares-nothing m a h = refl
 
-  -- a byte without the right is none with it
-  apart : (a p : ℕ) → hasRight tlb Write (upper a) ≡ false → ByteIn tlb Write p → a ≡ p → ⊥
-  apart a p h b e = true≢false (sym (b .allowed) ∙ ap (λ (n : ℕ). hasRight tlb Write (upper n)) (sym e) ∙ h)
-
-  pub stored-kept :
-      (s : Store) → StoreIn tlb s → (m : List ℕ) (a : ℕ) → hasRight tlb Write (upper a) ≡ false → getD (stored s m) a 0 ≡ getD m a 0
+  pub spares-byte : (p v : ℕ) → ByteIn tlb Write p → Spares tlb (Byte p v)
   unfolding stored
-  stored-kept Nothing w m a h = refl
-  stored-kept (Word i v) w m a h = word-kept m i v a (apart a i h (w .first)) (apart a (plus i 1) h (second-in tlb Write i w))
-  stored-kept (Byte i v) w m a h = getD-set-other m i a (lower v) 0 (apart a i h w)
+  spares-byte p v b m a h = getD-set-other m p a (lower v) 0 (apart h b)
 
--- ---- the four bytes that a kernel entry pushes
-
-module _ (ssp flag saved : ℕ) where
-  pub pushed-agree :
-      (m m′ : List ℕ) → length m ≡ 65536 → length m′ ≡ 65536 → (a : ℕ) → getD m a 0 ≡ getD m′ a 0 →
-      getD (pushed ssp flag saved m) a 0 ≡ getD (pushed ssp flag saved m′) a 0
-  unfolding pushed
-  pushed-agree m m′ h h′ a e =
-      word-agree (storeWord m (minus ssp 2) saved) (storeWord m′ (minus ssp 2) saved) (word-long m _ _ h) (word-long m′ _ _ h′)
-      (minus ssp 4) flag a (omega arith) (word-agree m m′ h h′ (minus ssp 2) saved a (omega arith) e)
-
-  pub pushed-kept :
-      (m : List ℕ) (a : ℕ) →
-      (getD (pushed ssp flag saved m) a 0 ≡ getD m a 0) ⊎ ((a ≡ minus ssp 4) ⊎ ((a ≡ minus ssp 3) ⊎ ((a ≡ minus ssp 2) ⊎ (a ≡ minus ssp 1))))
-  unfolding pushed
-  pushed-kept m a = by (equal a (minus ssp 4)) (equal a (minus ssp 3)) (equal a (minus ssp 2)) (equal a (minus ssp 1))
+  pub spares-word : (p v : ℕ) → ByteIn tlb Write p × ByteIn tlb Write (plus p 1) → Spares tlb (Word p v)
+  unfolding stored
+  spares-word p v b m a h = by (word-kept m p v a)
     where
-      by :
-          (a ≡ minus ssp 4) ⊎ (a ≡ minus ssp 4 → ⊥) → (a ≡ minus ssp 3) ⊎ (a ≡ minus ssp 3 → ⊥) → (a ≡ minus ssp 2) ⊎ (a ≡ minus ssp 2 → ⊥)
-          → (a ≡ minus ssp 1) ⊎ (a ≡ minus ssp 1 → ⊥)
-          → (getD (pushed ssp flag saved m) a 0 ≡ getD m a 0) ⊎ ((a ≡ minus ssp 4) ⊎ ((a ≡ minus ssp 3) ⊎ ((a ≡ minus ssp 2) ⊎ (a ≡ minus ssp 1))))
-      by (inl e) _ _ _ = inr (inl e)
-      by (inr n4) (inl e) _ _ = inr (inr (inl e))
-      by (inr n4) (inr n3) (inl e) _ = inr (inr (inr (inl e)))
-      by (inr n4) (inr n3) (inr n2) (inl e) = inr (inr (inr (inr e)))
-      by (inr n4) (inr n3) (inr n2) (inr n1) =
-          inl (
-          word-kept (storeWord m (minus ssp 2) saved) (minus ssp 4) flag a n4 (λ e. n3 (omega arith))
-          ∙ word-kept m (minus ssp 2) saved a n2 (λ e. n1 (omega arith)))
+      by : {x y : ℕ} → (x ≡ y) ⊎ ((a ≡ p) ⊎ (a ≡ plus p 1)) → x ≡ y
+      by (inl e) = e
+      by (inr (inl e)) = absurd (apart h (b .0) e)
+      by (inr (inr e)) = absurd (apart h (b .1) e)

@@ -1,1 +1,1 @@
-// Isolation of user programs: a theorem about the definitions of `machine`, no functions.
+// Isolation of user programs: theorems about the definitions of `machine`, no functions. What they say stands in specs/Statement.antt.

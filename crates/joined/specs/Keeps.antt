@@ -1,22 +1,24 @@
 -- A card leaves a good state whose numbers fit, and a memory of bytes, as long as before, if it began with such.
 -- Assumes nothing.
+use mathlib.Core.Bool.{Bool}
 use mathlib.Core.List.{List, [], _∷_}
 use mathlib.Core.Path.{refl, _∙_, _≡_}
 use Prim.Native.Nat.{ℕ, _<_}
-use lib.Bits.{or-lt}
+use lib.Bits.{bitOr, or-lt}
 use lib.Dec.{eqb, ltb}
-use lib.ListN.{getD, length, length-set, set}
+use lib.ListN.{length, length-set, set}
 use Rattle.card.specs.Card.{readingOf}
-use Rattle.card.specs.Play.{Played, actOf, playOf, withLines, withRegister}
+use Rattle.card.specs.Effect.{Effect, effectOf, executeOf, withLines, withRegister}
 use Rattle.card.specs.declared.Command.{Command}
 use Rattle.card.specs.declared.Command.the-variants.{Byte, Entry, Flag, Lines, Mmu, Register, Run}
-use Rattle.machine.specs.State.{withTlb}
+use Rattle.machine.specs.Flag.{withFlag}
+use Rattle.machine.specs.State.{withMmu, withTlb}
 use Rattle.machine.specs.declared.State.{State}
-use Rattle.roundtrip.specs.Cases.{either}
 use Rattle.roundtrip.specs.Each.{each-set}
-use Rattle.roundtrip.specs.Good.{GoodState, GoodTlb, Zeros}
-use Rattle.roundtrip.specs.Ranged.{Bytes, EntryFits, NumbersOf, Ranged, RangedFields}
 use Rattle.roundtrip.specs.Runs.{run-good, run-memory-long, run-ranged}
+use Rattle.roundtrip.specs.Statement.{Bytes, Each, EntryFits, GoodState, Ranged, Word, Zeros}
+use Rattle.roundtrip.specs.Statement as range
+use Rattle.word.specs.Cases.{either}
 use Rattle.joined.specs.Operands.{AllFit, Fits, card-fits}
 
 -- a good state whose numbers fit
@@ -33,75 +35,53 @@ pub record Kept (long : ℕ) (st : State) (m : List ℕ) : Type 0 where
 -- ---- a command
 
 module _ (st : State) (s : Sound st) where
-  -- the numbers that a command may replace
-  refit :
-      (regs : List ℕ) (ssp usp pc input : ℕ) → ((k : ℕ) → getD regs k 0 < 65536) → ssp < 65536 → usp < 65536 → pc < 65536 → input < 256
-      → RangedFields regs ssp usp pc input (st .output) (st .violation) (st .missed) (st .tlb)
-  refit regs ssp usp pc input words system user next read =
-      let n : NumbersOf st = s .ranged .numbers in
-      record {
-        numbers =
-            record {
-              words = words;
-              system = system;
-              user = user;
-              next = next;
-              read = read;
-              written = n .written;
-              refused = n .refused;
-              page = n .page;
-            };
-        entries = s .ranged .entries;
-      }
-
-  register-sound : (n v : ℕ) → v < 65536 → Sound (withRegister st n v)
+  register-sound : (n v : ℕ) → Word v → Sound (withRegister st n v)
   unfolding withRegister
   register-sound n v h =
       let g : GoodState st = s .good in
-      let f : NumbersOf st = s .ranged .numbers in
-      let words : (k : ℕ) → getD (set (st .regs) n v) k 0 < 65536 = each-set (λ (w : ℕ). w < 65536) (st .regs) n v (f .words) h in
+      let r : Ranged st = s .ranged in
+      let words : Each Word (set (st .regs) n v) = each-set Word (st .regs) n v (r .words) h in
       let thirteen : length (set (st .regs) n v) ≡ 13 = length-set (st .regs) n v ∙ g .thirteen in
-      either Sound (ltb n 13)
-      (record {
-        good = record { thirteen = thirteen; lines = g .lines; causes = g .causes; entries = g .entries };
-        ranged = refit _ _ _ _ _ words (f .system) (f .user) (f .next) (f .read);
-      })
-      (either Sound (eqb n 13) (record { good = g; ranged = refit _ _ _ _ _ (f .words) h (f .user) (f .next) (f .read) })
-      (either Sound (eqb n 14) (record { good = g; ranged = refit _ _ _ _ _ (f .words) (f .system) h (f .next) (f .read) })
-      (record { good = g; ranged = refit _ _ _ _ _ (f .words) (f .system) (f .user) h (f .read) })))
+      either Sound (ltb n 13) (λ _. record { good = search (g, g .zeros); ranged = search (r, words, r .entries) })
+      (λ _. either Sound (eqb n 13) (λ _. record { good = search (g, g .zeros); ranged = search (r, r .words, r .entries) })
+      (λ _. either Sound (eqb n 14) (λ _. record { good = search (g, g .zeros); ranged = search (r, r .words, r .entries) })
+      (λ _. record { good = search (g, g .zeros); ranged = search (r, r .words, r .entries) })))
 
-  lines-sound : (lines v : ℕ) → lines < 1024 → v < 256 → Sound (withLines st lines v)
+  lines-sound : (lines v : ℕ) → lines < 1024 → range.Byte v → Sound (withLines st lines v)
   lines-sound lines v h k =
       let g : GoodState st = s .good in
-      let f : NumbersOf st = s .ranged .numbers in
-      record {
-        good =
-            record {
-              thirteen = g .thirteen;
-              lines = or-lt 10 (st .pending) lines (g .lines) h;
-              causes = g .causes;
-              entries = g .entries;
-            };
-        ranged = refit _ _ _ _ _ (f .words) (f .system) (f .user) (f .next) k;
-      }
+      let r : Ranged st = s .ranged in
+      let all : bitOr (st .pending) lines < 1024 = or-lt 10 (st .pending) lines (g .lines) h in
+      record { good = search (g, g .zeros); ranged = search (r, r .words, r .entries) }
 
   entry-sound : (k bits : ℕ) → Zeros bits → EntryFits bits → Sound (withTlb st (set (st .tlb) k bits))
   entry-sound k bits z h =
       let g : GoodState st = s .good in
-      let tlb : GoodTlb (set (st .tlb) k bits) =
-      record { eight = length-set (st .tlb) k bits ∙ g .entries .eight; zeros = each-set Zeros (st .tlb) k bits (g .entries .zeros) z } in
-      record {
-        good = record { thirteen = g .thirteen; lines = g .lines; causes = g .causes; entries = tlb };
-        ranged = record { numbers = s .ranged .numbers; entries = each-set EntryFits (st .tlb) k bits (s .ranged .entries) h };
-      }
+      let r : Ranged st = s .ranged in
+      let eight : length (set (st .tlb) k bits) ≡ 8 = length-set (st .tlb) k bits ∙ g .eight in
+      let zeros : Each Zeros (set (st .tlb) k bits) = each-set Zeros (st .tlb) k bits (g .zeros) z in
+      let entries : Each EntryFits (set (st .tlb) k bits) = each-set EntryFits (st .tlb) k bits (r .entries) h in
+      record { good = search (g, zeros); ranged = search (r, r .words, entries) }
+
+  mmu-sound : (on : Bool) → Sound (withMmu st on)
+  mmu-sound on =
+      let g : GoodState st = s .good in
+      let r : Ranged st = s .ranged in
+      record { good = search (g, g .zeros); ranged = search (r, r .words, r .entries) }
+
+  flag-sound : (w : ℕ) → Sound (withFlag st w)
+  flag-sound w =
+      let g : GoodState st = s .good in
+      let r : Ranged st = s .ranged in
+      record { good = search (g, g .zeros); ranged = search (r, r .words, r .entries) }
 
 module _ (long : ℕ) where
   -- what some commands leave
-  abbrev Leaves : Played → Type 0
+  abbrev Leaves : Effect → Type 0
   Leaves p = Kept long (p .state) (p .memory)
 
-  act-keeps : (x : Command) → Fits x → (st : State) (m : List ℕ) → Kept long st m → Leaves (actOf x st m)
-  unfolding actOf
+  act-keeps : (x : Command) → Fits x → (st : State) (m : List ℕ) → Kept long st m → Leaves (effectOf x st m)
+  unfolding effectOf
   act-keeps (Byte a v) f st m k =
       record { sound = k .sound; bytes = each-set (λ (w : ℕ). w < 256) m a v (k .bytes) f; sized = length-set m a v ∙ k .sized }
   act-keeps (Register n v) f st m k = record { sound = register-sound st (k .sound) n v f; bytes = k .bytes; sized = k .sized }
@@ -116,22 +96,20 @@ module _ (long : ℕ) where
       }
   act-keeps (Entry e bits) f st m k =
       record { sound = entry-sound st (k .sound) e bits (f .0) (f .1); bytes = k .bytes; sized = k .sized }
-  act-keeps (Mmu on) f st m k =
-      record { sound = record { good = k .sound .good; ranged = k .sound .ranged }; bytes = k .bytes; sized = k .sized }
-  act-keeps (Flag w) f st m k =
-      record { sound = record { good = k .sound .good; ranged = k .sound .ranged }; bytes = k .bytes; sized = k .sized }
+  act-keeps (Mmu on) f st m k = record { sound = mmu-sound st (k .sound) on; bytes = k .bytes; sized = k .sized }
+  act-keeps (Flag w) f st m k = record { sound = flag-sound st (k .sound) w; bytes = k .bytes; sized = k .sized }
 
-  play-keeps : (xs : List Command) → AllFit xs → (st : State) (m : List ℕ) → Kept long st m → Leaves (playOf xs st m)
-  unfolding playOf
-  play-keeps [] f st m k = k
-  play-keeps (x ∷ xs) f st m k =
-      let done : Played = actOf x st m in
-      play-keeps xs (f .1) (done .state) (done .memory) (act-keeps x (f .0) st m k)
+  execute-keeps : (xs : List Command) → AllFit xs → (st : State) (m : List ℕ) → Kept long st m → Leaves (executeOf xs st m)
+  unfolding executeOf
+  execute-keeps [] f st m k = k
+  execute-keeps (x ∷ xs) f st m k =
+      let done : Effect = effectOf x st m in
+      execute-keeps xs (f .1) (done .state) (done .memory) (act-keeps x (f .0) st m k)
 
 -- a card's commands, be the card good or not
-pub play-good :
+pub execute-good :
     (card : List ℕ) → Bytes card → (st : State) (m : List ℕ) → GoodState st → Ranged st → Bytes m
-    → Kept (length m) ((playOf ((readingOf card) .commands) st m) .state) ((playOf ((readingOf card) .commands) st m) .memory)
-play-good card small st m g r b =
-    play-keeps (length m) ((readingOf card) .commands) (card-fits card small) st m
+    → Kept (length m) ((executeOf ((readingOf card) .commands) st m) .state) ((executeOf ((readingOf card) .commands) st m) .memory)
+execute-good card small st m g r b =
+    execute-keeps (length m) ((readingOf card) .commands) (card-fits card small) st m
     (record { sound = record { good = g; ranged = r }; bytes = b; sized = refl })

@@ -9,18 +9,18 @@ use borrow.Author.Tests.{eqb-true, ltb-true}
 use lib.Dec.{leb, ltb}
 use lib.ListN.{drop, getD, length}
 use lib.Seq.{getD-drop}
-use Rattle.card.specs.Card.{Reading, readBy, readFrom, readingOf}
+use Rattle.card.specs.Card.{Reading, cardSize, readBy, readFrom, readingOf}
 use Rattle.card.specs.Command.{commandOf, goodOf, operandsOf, parsedOf}
 use Rattle.card.specs.Laws.{read-on}
 use Rattle.card.specs.declared.Command.{Command}
 use Rattle.card.specs.declared.Command.the-variants.{Byte, Entry, Flag, Lines, Mmu, Register, Run}
 use Rattle.card.specs.declared.Parsed.{Parsed}
 use Rattle.card.specs.declared.Parsed.the-variants.{Bad, End, Next}
-use Rattle.image.specs.Decode.{byteFrom, pendingGood, zerosGood}
-use Rattle.roundtrip.specs.Cases.{either, rest}
-use Rattle.roundtrip.specs.Good.{Zeros}
-use Rattle.roundtrip.specs.Ranged.{Bytes, EntryFits}
-use Rattle.joined.specs.Parses.{Whole, by-number, whole}
+use Rattle.image.specs.Valid.{pendingGood, zerosGood}
+use Rattle.word.specs.Bytes.{byteFrom}
+use Rattle.word.specs.Cases.{either, rest}
+use Rattle.roundtrip.specs.Statement.{Bytes, EntryFits, Zeros}
+use Rattle.card.specs.Whole.{Whole, by-number, whole}
 use Rattle.joined.specs.Reading.{further}
 
 -- the operands that come into the state or into memory fit there
@@ -84,4 +84,4 @@ module _ (card : List ℕ) (small : Bytes card) where
   -- all of them, be the card good or not
   pub card-fits : AllFit ((readingOf card) .commands)
   unfolding readingOf
-  card-fits = either (λ (r : Reading). AllFit (r .commands)) (leb (length card) 4096) (read-fits (length card) 0 (omega arith)) tt
+  card-fits = either (λ (r : Reading). AllFit (r .commands)) (leb (length card) cardSize) (λ _. read-fits (length card) 0 (omega arith)) (λ _. tt)

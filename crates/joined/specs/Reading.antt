@@ -1,37 +1,36 @@
 -- The reading of two cards put together: the first card's commands, and behind them the second's.
 -- Assumes nothing.
-use mathlib.Core.Bool.{Bool, cond, false, true}
 use mathlib.Core.List.{List, [], _++_, _∷_}
 use mathlib.Core.Path.{ap, refl, sym, _∙_, _≡_}
 use Prim.Native.Nat.{suc, zero, ℕ, _+_, _<_, _≤_}
 use native.Mathlib.Omega.{arith}
-use borrow.Author.Tests.{le-leb, leb-true}
-use lib.Dec.{leb}
+use borrow.Author.Tests.{le-leb}
 use lib.ListN.{drop, length, length-append, length-drop}
 use lib.Seq.{drop-append-add, drop-append-le}
-use Rattle.card.specs.Card.{Reading, readBy, readFrom, reading, readingOf}
+use Rattle.card.specs.Card.{Reading, cardSize, readBy, readFrom, reading, readingOf}
 use Rattle.card.specs.Command.{parsedOf}
 use Rattle.card.specs.Laws.{next-within, read-on}
+use Rattle.card.specs.Passed.{read-whole}
+use Rattle.card.specs.Whole.{ended}
 use Rattle.card.specs.declared.Command.{Command}
 use Rattle.card.specs.declared.Parsed.{Parsed}
 use Rattle.card.specs.declared.Parsed.the-variants.{Bad, End, Next}
-use Rattle.image.specs.Laws.{not-good}
-use Rattle.image.specs.declared.Refusal.the-variants.{CardLength}
-use Rattle.image.specs.declared.Verdict.{Verdict}
-use Rattle.image.specs.declared.Verdict.the-variants.{Good, Refused}
-use Rattle.joined.specs.Parses.{ended, moved-parsed, movedParsed, movedRefusal, parsed-before}
+use Rattle.refusal.specs.Laws.{not-good}
+use Rattle.refusal.specs.declared.Validity.{Validity}
+use Rattle.refusal.specs.declared.Validity.the-variants.{Good, Refused}
+use Rattle.joined.specs.Parses.{moved-parsed, movedParsed, movedRefusal, parsed-before}
 
--- a verdict on a card that stands k bytes further on
-abbrev pub movedVerdict : ℕ → Verdict → Verdict
-movedVerdict k Good = Good
-movedVerdict k (Refused r) = Refused (movedRefusal k r)
+-- a validity on a card that stands k bytes further on
+abbrev pub movedValidity : ℕ → Validity → Validity
+movedValidity k Good = Good
+movedValidity k (Refused r) = Refused (movedRefusal k r)
 
 abbrev pub movedReading : ℕ → Reading → Reading
-movedReading k r = reading (r .commands) (movedVerdict k (r .verdict))
+movedReading k r = reading (r .commands) (movedValidity k (r .validity))
 
 -- a reading to the end, and what is read from there on
 abbrev pub followed : List Command → Reading → Reading
-followed xs r = reading (xs ++ r .commands) (r .verdict)
+followed xs r = reading (xs ++ r .commands) (r .validity)
 
 -- the next position is further on, and not past the end
 pub further :
@@ -48,7 +47,7 @@ moved-by :
     → readBy (movedParsed k p) f ≡ movedReading k (readBy p g)
 moved-by k End f g h = refl
 moved-by k (Bad r) f g h = refl
-moved-by k (Next x next) f g h = ap (λ (r : Reading). reading (x ∷ r .commands) (r .verdict)) (h x next refl)
+moved-by k (Next x next) f g h = ap (λ (r : Reading). reading (x ∷ r .commands) (r .validity)) (h x next refl)
 
 module _ (a c : List ℕ) where
   second-by :
@@ -89,14 +88,14 @@ module _ (a c : List ℕ) where
 
   first-by :
       (at : ℕ) → at ≤ length a
-      → ((x : Command) (on : ℕ) → parsedOf at (drop at a) ≡ Next x on → (readFrom a on) .verdict ≡ Good → Both on (readFrom a on))
-      → (p : Parsed) → parsedOf at (drop at a) ≡ p → (readBy p (readFrom a)) .verdict ≡ Good → Both at (readBy p (readFrom a))
+      → ((x : Command) (on : ℕ) → parsedOf at (drop at a) ≡ Next x on → (readFrom a on) .validity ≡ Good → Both on (readFrom a on))
+      → (p : Parsed) → parsedOf at (drop at a) ≡ p → (readBy p (readFrom a)) .validity ≡ Good → Both at (readBy p (readFrom a))
   first-by at h ih End e g = at-end at h e
   first-by at h ih (Bad r) e g = not-good r g
   first-by at h ih (Next x on) e g = before at h x on e ∙ ap (followed (x ∷ [])) (ih x on e g)
 
   -- with `n` bytes left at most
-  first : (n at : ℕ) → at ≤ length a → length a ≤ at + n → (readFrom a at) .verdict ≡ Good → Both at (readFrom a at)
+  first : (n at : ℕ) → at ≤ length a → length a ≤ at + n → (readFrom a at) .validity ≡ Good → Both at (readFrom a at)
   first zero at h l g =
       rw (read-on a at)
       (first-by at h (λ x on e v. absurd (omega (arith, further a at x on e))) (parsedOf at (drop at a)) refl (rw (read-on a at) at g))
@@ -107,48 +106,37 @@ module _ (a c : List ℕ) where
 
 -- ---- whole cards
 
-short-by :
-    (card : List ℕ) (t : Bool) → leb (length card) 4096 ≡ t → (cond t (readFrom card 0) (reading [] (Refused CardLength))) .verdict ≡ Good
-    → length card ≤ 4096
-short-by card true e g = leb-true (length card) 4096 e
-short-by card false e g = not-good CardLength g
-
--- a good card is of 4,096 bytes at most
-pub good-short : (card : List ℕ) → (readingOf card) .verdict ≡ Good → length card ≤ 4096
+from-start : (card : List ℕ) → length card ≤ cardSize → readingOf card ≡ readFrom card 0
 unfolding readingOf
-good-short card g = short-by card (leb (length card) 4096) refl g
-
-from-start : (card : List ℕ) → length card ≤ 4096 → readingOf card ≡ readFrom card 0
-unfolding readingOf
-from-start card h = rw (le-leb (length card) 4096)
+from-start card h = rw (le-leb (length card) cardSize)
 
 -- The commands of a good card with another behind it are its own, and then the other's; what is said of the other is said of it here, the
 -- positions counted from the first card's start.
 pub read-joined :
-    (a c : List ℕ) → (readingOf a) .verdict ≡ Good → length (a ++ c) ≤ 4096
+    (a c : List ℕ) → (readingOf a) .validity ≡ Good → length (a ++ c) ≤ cardSize
     → readingOf (a ++ c) ≡ followed ((readingOf a) .commands) (movedReading (length a) (readingOf c))
 read-joined a c g h =
-    let la : length a ≤ 4096 = omega (arith, length-append a c) in
-    let lc : length c ≤ 4096 = omega (arith, length-append a c) in
+    let la : length a ≤ cardSize = omega (arith, length-append a c) in
+    let lc : length c ≤ cardSize = omega (arith, length-append a c) in
     let e : readingOf a ≡ readFrom a 0 = from-start a la in
     rw (from-start (a ++ c) h, e, from-start c lc) (first a c (length a) 0 (omega arith) (omega arith) (rw e at g))
 
-unmoved : (k : ℕ) (v : Verdict) → movedVerdict k v ≡ Good → v ≡ Good
+unmoved : (k : ℕ) (v : Validity) → movedValidity k v ≡ Good → v ≡ Good
 unmoved k Good e = refl
 unmoved k (Refused r) e = not-good (movedRefusal k r) e
 
 -- so the other is good if both together are, and both together are if the other is
-pub second-good : (a c : List ℕ) → (readingOf a) .verdict ≡ Good → (readingOf (a ++ c)) .verdict ≡ Good → (readingOf c) .verdict ≡ Good
+pub second-good : (a c : List ℕ) → (readingOf a) .validity ≡ Good → (readingOf (a ++ c)) .validity ≡ Good → (readingOf c) .validity ≡ Good
 second-good a c g h =
-    unmoved (length a) ((readingOf c) .verdict) (sym (ap (λ (r : Reading). r .verdict) (read-joined a c g (good-short (a ++ c) h))) ∙ h)
+    unmoved (length a) ((readingOf c) .validity) (sym (ap (λ (r : Reading). r .validity) (read-joined a c g (read-whole (a ++ c) h .0))) ∙ h)
 
 pub joined-good :
-    (a c : List ℕ) → (readingOf a) .verdict ≡ Good → (readingOf c) .verdict ≡ Good → length (a ++ c) ≤ 4096
-    → (readingOf (a ++ c)) .verdict ≡ Good
+    (a c : List ℕ) → (readingOf a) .validity ≡ Good → (readingOf c) .validity ≡ Good → length (a ++ c) ≤ cardSize
+    → (readingOf (a ++ c)) .validity ≡ Good
 joined-good a c g h l =
-    ap (λ (r : Reading). r .verdict) (read-joined a c g l) ∙ ap (movedVerdict (length a)) h
+    ap (λ (r : Reading). r .validity) (read-joined a c g l) ∙ ap (movedValidity (length a)) h
 
 pub commands-joined :
-    (a c : List ℕ) → (readingOf a) .verdict ≡ Good → (readingOf (a ++ c)) .verdict ≡ Good
+    (a c : List ℕ) → (readingOf a) .validity ≡ Good → (readingOf (a ++ c)) .validity ≡ Good
     → (readingOf (a ++ c)) .commands ≡ (readingOf a) .commands ++ (readingOf c) .commands
-commands-joined a c g h = ap (λ (r : Reading). r .commands) (read-joined a c g (good-short (a ++ c) h))
+commands-joined a c g h = ap (λ (r : Reading). r .commands) (read-joined a c g (read-whole (a ++ c) h .0))

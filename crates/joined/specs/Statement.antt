@@ -7,11 +7,12 @@ use mathlib.Core.Path.{_≡_}
 use Prim.Native.Nat.{ℕ, _+_, _≤_}
 use lib.ListN.{drop, length, take}
 use Rattle.card.specs.Call.{cardCall}
-use Rattle.card.specs.Card.{readingOf, testedOf}
-use Rattle.image.specs.Call.{Call}
-use Rattle.image.specs.Decode.{goodImage}
-use Rattle.image.specs.declared.Verdict.the-variants.{Good}
-use Rattle.roundtrip.specs.Ranged.{Bytes}
+use Rattle.card.specs.Card.{cardSize, cardValid, readingOf}
+use Rattle.refusal.specs.Call.{Call}
+use Rattle.image.specs.Layout.{imageSize}
+use Rattle.image.specs.Valid.{goodImage}
+use Rattle.refusal.specs.declared.Validity.the-variants.{Good}
+use Rattle.roundtrip.specs.Statement.{Bytes}
 
 -- ---- the law, for a memory, an image, two cards and a report
 
@@ -43,14 +44,14 @@ module _ (m b a c rep : List ℕ) where
     pub memoryBytes : Bytes m
     pub imageBytes : Bytes b
     pub cardBytes : Bytes a
-    pub firstCard : (readingOf a) .verdict ≡ Good
-    pub jointGood : testedOf (length m) b (a ++ c) (length rep) ≡ Good
+    pub firstCard : (readingOf a) .validity ≡ Good
+    pub jointGood : cardValid (length m) b (a ++ c) (length rep) ≡ Good
 
   -- then
   pub record AsOne : Type 0 where
     -- neither call is refused
-    pub firstGood : testedOf (length m) b a (length rep) ≡ Good
-    pub secondGood : testedOf (length memoryLeft) imageLeft c (length reportLeft) ≡ Good
+    pub firstGood : cardValid (length m) b a (length rep) ≡ Good
+    pub secondGood : cardValid (length memoryLeft) imageLeft c (length reportLeft) ≡ Good
     -- the second call leaves the memory and the image that the joint one does
     pub memory : jointCall .memory ≡ secondCall .memory
     pub image : jointCall .image ≡ secondCall .image
@@ -60,9 +61,9 @@ module _ (m b a c rep : List ℕ) where
 
   -- The joint call passes its tests wherever the two calls pass theirs and the cards are together no longer than one may be.
   pub record Apart : Type 0 where
-    pub firstGood : testedOf (length m) b a (length rep) ≡ Good
-    pub secondGood : testedOf (length memoryLeft) imageLeft c (length reportLeft) ≡ Good
-    pub short : length (a ++ c) ≤ 4096
+    pub firstGood : cardValid (length m) b a (length rep) ≡ Good
+    pub secondGood : cardValid (length memoryLeft) imageLeft c (length reportLeft) ≡ Good
+    pub short : length (a ++ c) ≤ cardSize
 
 -- ---- what a card leaves
 
@@ -71,5 +72,5 @@ pub record Left (m : List ℕ) (call : Call) : Type 0 where
   pub memoryBytes : Bytes (call .memory)
   pub memoryLong : length (call .memory) ≡ length m
   pub imageBytes : Bytes (call .image)
-  pub imageLong : length (call .image) ≡ 68
+  pub imageLong : length (call .image) ≡ imageSize
   pub imageGood : goodImage (call .image) ≡ true

@@ -6,18 +6,20 @@ use Prim.Native.Nat.{ℕ, _*_, _+_, _≤_}
 use native.Mathlib.Omega.{arith}
 use lib.ListN.{drop, length, length-drop}
 use lib.Seq.{drop-at, drop-drop, take-at}
-use Rattle.card.specs.Call.{playedCall}
-use Rattle.card.specs.Card.{readingOf, runsIn, testedOf}
+use Rattle.card.specs.Call.{executedCall}
+use Rattle.card.specs.Card.{readingOf, runsIn, cardValid}
 use Rattle.card.specs.Laws.{all-reports-long}
-use Rattle.card.specs.Play.{Played, playOf}
+use Rattle.card.specs.Effect.{Effect, executeOf}
+use Rattle.card.specs.Passed.{Passed, passed, passes}
 use Rattle.card.specs.declared.Command.{Command}
-use Rattle.image.specs.Call.{Call}
+use Rattle.refusal.specs.Call.{Call}
 use Rattle.image.specs.Decode.{stateFrom}
-use Rattle.image.specs.declared.Verdict.the-variants.{Good}
+use Rattle.refusal.specs.declared.Validity.the-variants.{Good}
+use Rattle.report.specs.Layout.{reportSize}
 use Rattle.roundtrip.specs.Ranged.{decoded}
-use Rattle.joined.specs.Calls.{Passed, call-is, call-keeps, card-leaves, cardPlayed, passed, passes}
+use Rattle.joined.specs.Calls.{call-is, call-keeps, card-leaves, cardExecuted}
 use Rattle.joined.specs.Keeps.{Kept}
-use Rattle.joined.specs.Playing.{onward, play-both, runs-both}
+use Rattle.joined.specs.Executing.{onward, execute-both, runs-both}
 use Rattle.joined.specs.Reading.{commands-joined, joined-good, second-good}
 use Rattle.joined.specs.Statement.{Apart, AsOne, Given, Left, firstCall, imageLeft, jointCall, memoryLeft, reportLeft, secondCall}
 
@@ -27,26 +29,26 @@ abbrev commands : List ℕ → List Command
 commands card = (readingOf card) .commands
 
 all-runs :
-    (a c : List ℕ) → (readingOf a) .verdict ≡ Good → (readingOf (a ++ c)) .verdict ≡ Good
+    (a c : List ℕ) → (readingOf a) .validity ≡ Good → (readingOf (a ++ c)) .validity ≡ Good
     → runsIn (commands (a ++ c)) ≡ runsIn (commands a) + runsIn (commands c)
 all-runs a c g h = ap runsIn (commands-joined a c g h) ∙ runs-both (commands a) (commands c)
 
 module _ (m b a c rep : List ℕ) where
   -- what the first card does, and then the second
-  abbrev one : Played
-  one = cardPlayed m b a
+  abbrev one : Effect
+  one = cardExecuted m b a
 
-  abbrev two : Played
-  two = playOf (commands c) (one .state) (one .memory)
+  abbrev two : Effect
+  two = executeOf (commands c) (one .state) (one .memory)
 
   -- ---- the first call
 
   -- the report bytes that it fills
   abbrev filled : ℕ
-  filled = 12 * runsIn (commands a)
+  filled = reportSize * runsIn (commands a)
 
-  module _ (good : testedOf (length m) b a (length rep) ≡ Good) where
-    first-is : firstCall m b a c rep ≡ playedCall filled one rep
+  module _ (good : cardValid (length m) b a (length rep) ≡ Good) where
+    first-is : firstCall m b a c rep ≡ executedCall filled one rep
     first-is = call-is m b a rep good
 
     memory-is : memoryLeft m b a c rep ≡ one .memory
@@ -59,19 +61,19 @@ module _ (m b a c rep : List ℕ) where
 
   -- ---- both calls pass their tests: so does the joint one
 
-  pub joint-good : Apart m b a c rep → testedOf (length m) b (a ++ c) (length rep) ≡ Good
+  pub joint-good : Apart m b a c rep → cardValid (length m) b (a ++ c) (length rep) ≡ Good
   joint-good x =
       let p : Passed (length m) b a (length rep) = passed (length m) b a (length rep) (x .firstGood) in
       let q : Passed _ _ c (length (reportLeft m b a c rep)) = passed _ _ c (length (reportLeft m b a c rep)) (x .secondGood) in
-      let left : 12 * runsIn (commands c) ≤ length (drop filled rep) = rw (rest-is (x .firstGood)) at (q .room) in
-      let card : (readingOf (a ++ c)) .verdict ≡ Good = joined-good a c (p .cardGood) (q .cardGood) (x .short) in
+      let left : reportSize * runsIn (commands c) ≤ length (drop filled rep) = rw (rest-is (x .firstGood)) at (q .room) in
+      let card : (readingOf (a ++ c)) .validity ≡ Good = joined-good a c (p .read) (q .read) (x .short) in
       passes (length m) b (a ++ c) (length rep)
       (record {
         memory = p .memory;
-        image = p .image;
+        size = p .size;
         fields = p .fields;
-        cardGood = card;
-        room = omega (arith, all-runs a c (p .cardGood) card, length-drop filled rep);
+        read = card;
+        room = omega (arith, all-runs a c (p .read) card, length-drop filled rep);
       })
 
   -- ---- the joint call passes its tests, and the first card is good
@@ -81,16 +83,16 @@ module _ (m b a c rep : List ℕ) where
     joint = passed (length m) b (a ++ c) (length rep) (given .jointGood)
 
     runs : runsIn (commands (a ++ c)) ≡ runsIn (commands a) + runsIn (commands c)
-    runs = all-runs a c (given .firstCard) (joint .cardGood)
+    runs = all-runs a c (given .firstCard) (joint .read)
 
-    first-passes : testedOf (length m) b a (length rep) ≡ Good
+    first-passes : cardValid (length m) b a (length rep) ≡ Good
     first-passes =
         passes (length m) b a (length rep)
         (record {
           memory = joint .memory;
-          image = joint .image;
+          size = joint .size;
           fields = joint .fields;
-          cardGood = given .firstCard;
+          read = given .firstCard;
           room = omega (arith, joint .room, runs);
         })
 
@@ -104,35 +106,35 @@ module _ (m b a c rep : List ℕ) where
     left : Left m (firstCall m b a c rep)
     left = card-leaves m b a rep first-passes (given .memoryBytes) (given .imageBytes) (given .cardBytes)
 
-    second-passes : testedOf (length (memoryLeft m b a c rep)) (imageLeft m b a c rep) c (length (reportLeft m b a c rep)) ≡ Good
+    second-passes : cardValid (length (memoryLeft m b a c rep)) (imageLeft m b a c rep) c (length (reportLeft m b a c rep)) ≡ Good
     second-passes =
         passes _ _ c (length (reportLeft m b a c rep))
         (record {
           memory = left .memoryLong ∙ joint .memory;
-          image = left .imageLong;
+          size = left .imageLong;
           fields = left .imageGood;
-          cardGood = second-good a c (given .firstCard) (joint .cardGood);
+          read = second-good a c (given .firstCard) (joint .read);
           room = rw (rest-is first-passes) (omega (arith, joint .room, runs, length-drop filled rep));
         })
 
-    second-is : secondCall m b a c rep ≡ playedCall (12 * runsIn (commands c)) two (drop filled rep)
+    second-is : secondCall m b a c rep ≡ executedCall (reportSize * runsIn (commands c)) two (drop filled rep)
     second-is =
         call-is (memoryLeft m b a c rep) (imageLeft m b a c rep) c (reportLeft m b a c rep) second-passes
         ∙ rw (rest-is first-passes, between, memory-is first-passes)
 
-    joint-is : jointCall m b a c rep ≡ playedCall (filled + 12 * runsIn (commands c)) (onward (commands c) one) rep
+    joint-is : jointCall m b a c rep ≡ executedCall (filled + reportSize * runsIn (commands c)) (onward (commands c) one) rep
     joint-is =
-        let all : 12 * runsIn (commands (a ++ c)) ≡ filled + 12 * runsIn (commands c) = omega (arith, runs) in
+        let all : reportSize * runsIn (commands (a ++ c)) ≡ filled + reportSize * runsIn (commands c) = omega (arith, runs) in
         call-is m b (a ++ c) rep (given .jointGood)
-        ∙ rw (all, commands-joined a c (given .firstCard) (joint .cardGood), play-both (commands a) (commands c) (stateFrom b) m)
+        ∙ rw (all, commands-joined a c (given .firstCard) (joint .read), execute-both (commands a) (commands c) (stateFrom b) m)
 
     -- the two calls do what the joint one does
     pub as-one : AsOne m b a c rep
     as-one =
-        let f : firstCall m b a c rep ≡ playedCall filled one rep = first-is first-passes in
+        let f : firstCall m b a c rep ≡ executedCall filled one rep = first-is first-passes in
         let n : (firstCall m b a c rep) .answer ≡ filled = ap (λ (x : Call). x .answer) f in
-        let k : (secondCall m b a c rep) .answer ≡ 12 * runsIn (commands c) = ap (λ (x : Call). x .answer) second-is in
-        let all : (jointCall m b a c rep) .answer ≡ filled + 12 * runsIn (commands c) = ap (λ (x : Call). x .answer) joint-is in
+        let k : (secondCall m b a c rep) .answer ≡ reportSize * runsIn (commands c) = ap (λ (x : Call). x .answer) second-is in
+        let all : (jointCall m b a c rep) .answer ≡ filled + reportSize * runsIn (commands c) = ap (λ (x : Call). x .answer) joint-is in
         record {
           firstGood = first-passes;
           secondGood = second-passes;
@@ -145,7 +147,7 @@ module _ (m b a c rep : List ℕ) where
                 second-is,
                 f,
                 take-at (one .reports) (drop filled rep) filled (all-reports-long (commands a) (stateFrom b) m),
-                drop-drop (12 * runsIn (commands c)) filled rep,
+                drop-drop (reportSize * runsIn (commands c)) filled rep,
                 append-assoc,
               );
         }

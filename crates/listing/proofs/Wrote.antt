@@ -59,3 +59,8 @@ nothing t at h = record { text = refl; cursor = omega arith }
 -- what is written from the start
 pub whole : {t₀ t₁ : List ℕ} {at : ℕ} {xs : List ℕ} → Wrote t₀ t₁ 0 at xs → (at ≡ min (length xs) (length t₀)) × (t₁ ≡ over t₀ xs)
 whole {t₀} {t₁} {at} {xs} w = (omega arith, w .text ∙ sets-over t₀ xs)
+
+-- the invariant of a loop that writes: so many of the pieces are written
+pub record Writing (before after : List ℕ) (from to : ℕ) (pieces : List ℕ) (i n : ℕ) : Type 0 where
+  pub wrote : Wrote before after from to pieces
+  pub within : i ≤ n

@@ -10,7 +10,9 @@ use native.Mathlib.Omega.{arith}
 use lib.Dec.{eqb, ltb}
 use lib.ListN.{drop, getD, length, length-append}
 use borrow.Author.Tests.{le-ltb, lt-ltb, ltb-false, ltb-true}
-use Rattle.listing.specs.Listing.{endingText, lineOf, linesOf, listingOf, numberText, refusedText, runsText, wordIn}
+use Rattle.report.specs.Layout.{endingAt, numberAt, reportSize, statesAt, stepsAt}
+use Rattle.word.specs.Bytes.{wordFrom}
+use Rattle.listing.specs.Listing.{endingText, lineOf, linesOf, listingOf, numberText, refusedText, runsText}
 use Rattle.listing.specs.Text.{decimalOf, digitOf, hexOf}
 
 -- a number below 10 is one digit
@@ -73,18 +75,24 @@ pub line-bound : (r : List ℕ) → length (lineOf r) ≤ 39
 unfolding lineOf hexOf
 line-bound r =
     simp length-append
-    (omega (arith, ending-bound (getD r 0 0), number-bound (getD r 1 0), decimal-bound 5 (wordIn r 2), decimal-bound 10 (wordIn r 4 * 65536 + wordIn r 6)))
+    (omega (
+      arith,
+      ending-bound (getD r endingAt 0),
+      number-bound (getD r numberAt 0),
+      decimal-bound 5 (wordFrom r stepsAt),
+      decimal-bound 10 (wordFrom r statesAt * 65536 + wordFrom r (statesAt + 2)),
+    ))
 
 lines-bound : (n : ℕ) (r : List ℕ) → length (linesOf n r) ≤ 39 * n
 unfolding linesOf
 lines-bound zero r = omega arith
-lines-bound (suc n) r = simp length-append (omega (arith, line-bound r, lines-bound n (drop 12 r)))
+lines-bound (suc n) r = simp length-append (omega (arith, line-bound r, lines-bound n (drop reportSize r)))
 
-pub listing-bound : (answer : ℕ) (report : List ℕ) → length (listingOf answer report) ≤ 39 * (length report / 12) + 30
+pub listing-bound : (answer : ℕ) (report : List ℕ) → length (listingOf answer report) ≤ 39 * (length report / reportSize) + 30
 unfolding listingOf runsText refusedText
 listing-bound answer report =
-    cond-bound (ltb answer 4294967296) (39 * (length report / 12) + 30) _ _
-    (simp length-append (omega (arith, decimal-bound 20 (length report / 12), lines-bound (length report / 12) report)))
+    cond-bound (ltb answer 4294967296) (39 * (length report / reportSize) + 30) _ _
+    (simp length-append (omega (arith, decimal-bound 20 (length report / reportSize), lines-bound (length report / reportSize) report)))
     (simp length-append (omega (arith, decimal-bound 10 (answer / 4294967296), decimal-bound 10 (answer % 4294967296))))
 
 -- "runs 2", "entered 15 4 21 0008 0040" and "halted - 1 5 0002 0040"

@@ -6,6 +6,8 @@ use mathlib.Core.List.{List, [], _++_, _∷_}
 use Prim.Native.Nat.{suc, zero, ℕ, _%_, _*_, _+_, _/_}
 use lib.Dec.{eqb, ltb}
 use lib.ListN.{drop, getD, length, take}
+use Rattle.report.specs.Layout.{endingAt, flagAt, numberAt, pcAt, reportSize, statesAt, stepsAt}
+use Rattle.word.specs.Bytes.{wordFrom}
 use Rattle.listing.specs.Text.{decimalOf, hexOf}
 
 abbrev pub space : List ℕ
@@ -13,10 +15,6 @@ space = 32 ∷ []
 
 abbrev pub newline : List ℕ
 newline = 10 ∷ []
-
--- the word at an offset of a report, the upper byte first
-abbrev pub wordIn : List ℕ → ℕ → ℕ
-wordIn r at = getD r at 0 * 256 + getD r (at + 1) 0
 
 -- `spent`, `entered`, `halted` or `lost`, by "ending (0 spent, 1 entered, 2 halted, 3 lost)"
 unfoldable pub endingText : ℕ → List ℕ
@@ -36,23 +34,23 @@ numberText n = cond (eqb n 255) (45 ∷ []) (decimalOf 3 n)
 -- the line of a run, from the 12 bytes at the front of a report: a byte has at most 3 decimal digits, a word 5, 32 bits 10
 unfoldable pub lineOf : List ℕ → List ℕ
 lineOf r =
-    endingText (getD r 0 0)
+    endingText (getD r endingAt 0)
     ++ (space
-    ++ (numberText (getD r 1 0)
+    ++ (numberText (getD r numberAt 0)
     ++ (space
-    ++ (decimalOf 5 (wordIn r 2)
+    ++ (decimalOf 5 (wordFrom r stepsAt)
     ++ (space
-    ++ (decimalOf 10 (wordIn r 4 * 65536 + wordIn r 6)
+    ++ (decimalOf 10 (wordFrom r statesAt * 65536 + wordFrom r (statesAt + 2))
     ++ (space
-    ++ (hexOf (wordIn r 8)
+    ++ (hexOf (wordFrom r pcAt)
     ++ (space
-    ++ (hexOf (wordIn r 10)
+    ++ (hexOf (wordFrom r flagAt)
     ++ newline))))))))))
 
 -- the lines of the first `n` runs of a report
 unfoldable pub linesOf : ℕ → List ℕ → List ℕ
 linesOf zero r = []
-linesOf (suc n) r = lineOf r ++ linesOf n (drop 12 r)
+linesOf (suc n) r = lineOf r ++ linesOf n (drop reportSize r)
 
 -- `runs N`; 64 bits have at most 20 decimal digits
 unfoldable pub runsText : ℕ → List ℕ
@@ -66,7 +64,7 @@ refusedText n p = (114 ∷ 101 ∷ 102 ∷ 117 ∷ 115 ∷ 101 ∷ 100 ∷ 32 �
 unfoldable pub listingOf : ℕ → List ℕ → List ℕ
 listingOf answer report =
     cond (ltb answer 4294967296)
-    (runsText (length report / 12) ++ linesOf (length report / 12) report)
+    (runsText (length report / reportSize) ++ linesOf (length report / reportSize) report)
     (refusedText (answer / 4294967296) (answer % 4294967296))
 
 -- a text written over the front of a buffer, and cut where the buffer ends

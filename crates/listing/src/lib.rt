@@ -2,9 +2,11 @@
 ghost use mathlib.Core.Path.{_≡_};
 ghost use Prim.Native.Nat.{min, _/_, _≤_};
 ghost use lib.ListN.{length};
+ghost use Rattle.report.specs.Layout.{reportSize};
 ghost use Rattle.listing.specs.Listing as def;
 ghost use Rattle.listing.specs.Written.{Wrote};
 use line::put_line;
+use report::REPORT;
 use text::put;
 use text::put_bytes;
 use text::put_decimal;
@@ -24,12 +26,12 @@ fn put_runs(text: &mut [u8], runs: u64) -> usize
 // A line for each run of a report.
 fn put_lines(text: &mut [u8], from: usize, report: &[u8]) -> usize
     requires { ⌜ from ≤ length (now text) ⌝ }
-    ensures { λ r. ⌜ Wrote (now (text .entry)) (now (text .exit)) from r (def.linesOf (length (now (report .entry)) / 12) (now (report .entry))) ⌝ }
+    ensures { λ r. ⌜ Wrote (now (text .entry)) (now (text .exit)) from r (def.linesOf (length (now (report .entry)) / reportSize) (now (report .entry))) ⌝ }
 {
     let mut at = from;
     let mut i = 0;
-    while i < report.len() / 12 {
-        let start = 12 * i;
+    while i < report.len() / REPORT {
+        let start = REPORT * i;
         at = put_line(text, at, &report[start..]);
         i += 1;
     }
@@ -54,7 +56,7 @@ pub fn write_listing(answer: u64, report: &[u8], text: &mut [u8]) -> usize
     ensures text { λ _. ⌜ now (text .exit) ≡ def.over (now (text .entry)) (def.listingOf answer (now (report .entry))) ⌝ }
 {
     if answer < 4294967296 {
-        let at = put_runs(text, (report.len() / 12) as u64);
+        let at = put_runs(text, (report.len() / REPORT) as u64);
         put_lines(text, at, report)
     } else {
         put_refused(text, answer / 4294967296, answer % 4294967296)

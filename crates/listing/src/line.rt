@@ -1,8 +1,9 @@
 // The line of a run.
 ghost use mathlib.Core.List.{_++_};
-ghost use mathlib.Core.Path.{_≡_};
-ghost use Prim.Native.Nat.{_*_, _+_, _<_, _≤_};
+ghost use Prim.Native.Nat.{_*_, _+_, _≤_};
 ghost use lib.ListN.{getD, length};
+ghost use Rattle.report.specs.Layout.{endingAt, flagAt, numberAt, pcAt, reportSize, statesAt, stepsAt};
+ghost use Rattle.word.specs.Bytes.{wordFrom};
 ghost use Rattle.listing.specs.Listing as def;
 ghost use Rattle.listing.specs.Text.{decimalOf, hexOf};
 ghost use Rattle.listing.specs.Written.{Wrote};
@@ -10,6 +11,13 @@ use crate::text::put;
 use crate::text::put_bytes;
 use crate::text::put_decimal;
 use crate::text::put_hex;
+use report::ENDING;
+use report::FLAG;
+use report::NUMBER;
+use report::PC;
+use report::STATES;
+use report::STEPS;
+use word::word_from;
 
 fn put_ending(text: &mut [u8], at: usize, ending: u8) -> usize
     requires { ⌜ at ≤ length (now text) ⌝ }
@@ -35,33 +43,25 @@ fn put_number(text: &mut [u8], at: usize, number: u8) -> usize
     }
 }
 
-// The word at an offset, the upper byte first.
-fn word_in(report: &[u8], at: usize) -> u16
-    requires { ⌜ at + 1 < length (now report) ⌝ }
-    ensures { λ r. ⌜ r ≡ def.wordIn (now (report .entry)) at ⌝ }
-{
-    report[at] as u16 * 256 + report[at + 1] as u16
-}
-
 // How the run at the front of a report ended.
 fn put_end(text: &mut [u8], from: usize, report: &[u8]) -> usize
-    requires { ⌜ (from ≤ length (now text)) × (12 ≤ length (now report)) ⌝ }
-    ensures { λ r. ⌜ Wrote (now (text .entry)) (now (text .exit)) from r (def.endingText (getD (now (report .entry)) 0 0) ++ (def.space ++ (def.numberText (getD (now (report .entry)) 1 0) ++ def.space))) ⌝ }
+    requires { ⌜ (from ≤ length (now text)) × (reportSize ≤ length (now report)) ⌝ }
+    ensures { λ r. ⌜ Wrote (now (text .entry)) (now (text .exit)) from r (def.endingText (getD (now (report .entry)) endingAt 0) ++ (def.space ++ (def.numberText (getD (now (report .entry)) numberAt 0) ++ def.space))) ⌝ }
 {
-    let mut at = put_ending(text, from, report[0]);
+    let mut at = put_ending(text, from, report[ENDING]);
     at = put(text, at, b' ');
-    at = put_number(text, at, report[1]);
+    at = put_number(text, at, report[NUMBER]);
     put(text, at, b' ')
 }
 
 // Its steps and states.
 fn put_counts(text: &mut [u8], from: usize, report: &[u8]) -> usize
-    requires { ⌜ (from ≤ length (now text)) × (12 ≤ length (now report)) ⌝ }
-    ensures { λ r. ⌜ Wrote (now (text .entry)) (now (text .exit)) from r (decimalOf 5 (def.wordIn (now (report .entry)) 2) ++ (def.space ++ (decimalOf 10 (def.wordIn (now (report .entry)) 4 * 65536 + def.wordIn (now (report .entry)) 6) ++ def.space))) ⌝ }
+    requires { ⌜ (from ≤ length (now text)) × (reportSize ≤ length (now report)) ⌝ }
+    ensures { λ r. ⌜ Wrote (now (text .entry)) (now (text .exit)) from r (decimalOf 5 (wordFrom (now (report .entry)) stepsAt) ++ (def.space ++ (decimalOf 10 (wordFrom (now (report .entry)) statesAt * 65536 + wordFrom (now (report .entry)) (statesAt + 2)) ++ def.space))) ⌝ }
 {
-    let steps = word_in(report, 2);
-    let high = word_in(report, 4);
-    let low = word_in(report, 6);
+    let steps = word_from(report, STEPS);
+    let high = word_from(report, STATES);
+    let low = word_from(report, STATES + 2);
     let mut at = put_decimal(text, from, 5, steps as u64);
     at = put(text, at, b' ');
     at = put_decimal(text, at, 10, high as u64 * 65536 + low as u64);
@@ -70,11 +70,11 @@ fn put_counts(text: &mut [u8], from: usize, report: &[u8]) -> usize
 
 // Its PC and FLAG, which end the line.
 fn put_registers(text: &mut [u8], from: usize, report: &[u8]) -> usize
-    requires { ⌜ (from ≤ length (now text)) × (12 ≤ length (now report)) ⌝ }
-    ensures { λ r. ⌜ Wrote (now (text .entry)) (now (text .exit)) from r (hexOf (def.wordIn (now (report .entry)) 8) ++ (def.space ++ (hexOf (def.wordIn (now (report .entry)) 10) ++ def.newline))) ⌝ }
+    requires { ⌜ (from ≤ length (now text)) × (reportSize ≤ length (now report)) ⌝ }
+    ensures { λ r. ⌜ Wrote (now (text .entry)) (now (text .exit)) from r (hexOf (wordFrom (now (report .entry)) pcAt) ++ (def.space ++ (hexOf (wordFrom (now (report .entry)) flagAt) ++ def.newline))) ⌝ }
 {
-    let pc = word_in(report, 8);
-    let flag = word_in(report, 10);
+    let pc = word_from(report, PC);
+    let flag = word_from(report, FLAG);
     let mut at = put_hex(text, from, pc);
     at = put(text, at, b' ');
     at = put_hex(text, at, flag);
@@ -83,7 +83,7 @@ fn put_registers(text: &mut [u8], from: usize, report: &[u8]) -> usize
 
 // The line of that run.
 pub fn put_line(text: &mut [u8], from: usize, report: &[u8]) -> usize
-    requires { ⌜ (from ≤ length (now text)) × (12 ≤ length (now report)) ⌝ }
+    requires { ⌜ (from ≤ length (now text)) × (reportSize ≤ length (now report)) ⌝ }
     ensures { λ r. ⌜ Wrote (now (text .entry)) (now (text .exit)) from r (def.lineOf (now (report .entry))) ⌝ }
 {
     let mut at = put_end(text, from, report);

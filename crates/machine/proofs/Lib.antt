@@ -1,5 +1,5 @@
+pub mod Answers
 pub mod Cases
-pub mod Ends
-pub mod Find
-pub mod Laid
+pub mod Codes
+pub mod PortCases
 pub mod Turn

@@ -7,28 +7,12 @@ use Rattle.machine.specs.declared.Ending.{Ending}
 use Rattle.machine.specs.declared.Ending.the-variants as ending
 use Rattle.machine.specs.declared.Event.{Event}
 use Rattle.machine.specs.declared.Event.the-variants as event
-use Rattle.machine.specs.declared.Fault.{Fault}
-use Rattle.machine.specs.declared.Fault.the-variants.{Missing, Odd, Refused}
-use Rattle.machine.specs.declared.Right.{Right}
-use Rattle.machine.specs.declared.Right.the-variants.{Execute, Read, Write}
 
 -- "condition (0 running, 1 halted, 2 lost)"
 abbrev pub conditionNumber : Condition → ℕ
 conditionNumber condition.Running = 0
 conditionNumber condition.Halted = 1
 conditionNumber condition.Lost = 2
-
--- "odd word address (11 ...), then no entry (10), then right (11 ...)"
-abbrev pub faultNumber : Fault → ℕ
-faultNumber Odd = 11
-faultNumber Missing = 10
-faultNumber Refused = 11
-
--- "odd word address (11, cause bit 1, ...)", "right (11, cause bit 0)": what a fault adds to the cause
-abbrev pub causeBit : Fault → ℕ
-causeBit Odd = 2
-causeBit Missing = 0
-causeBit Refused = 1
 
 -- "undefined (14), privilege (13)", "zero divisor (12)", "SVC is 15."
 abbrev pub zeroDivisor : ℕ
@@ -42,12 +26,6 @@ undefinedWord = 14
 
 abbrev pub serviceCall : ℕ
 serviceCall = 15
-
--- "rights read 10, write 9, execute 8": the right's bit in a TLB entry
-abbrev pub rightBit : Right → ℕ
-rightBit Read = 10
-rightBit Write = 9
-rightBit Execute = 8
 
 -- the states of a step: the instruction's own; "entry costs 12 states in place of the instruction's (H)"; "HALT 5"; "one step, 0 states"
 abbrev pub statesOf : Event → ℕ

@@ -5,13 +5,14 @@ use mathlib.Core.Bool.{cond, false, true}
 use mathlib.Core.List.{List}
 use Prim.Native.Nat.{ℕ, _%_, _*_}
 use lib.Dec.{eqb}
+use Rattle.mmu.specs.Memory.{storeWord, wordAt}
 use Rattle.word.specs.Word.{minus, plus}
 use Rattle.machine.specs.Flag.{flagOf}
-use Rattle.machine.specs.Memory.{storeWord, wordAt}
-use Rattle.machine.specs.State.{withCondition, withPc, withPending, withStack, withSystem}
+use Rattle.machine.specs.State.{withCondition, withPc, withFlags, withPending, withStack}
 use Rattle.machine.specs.declared.Condition.the-variants as condition
 use Rattle.machine.specs.declared.Event.{Event}
 use Rattle.machine.specs.declared.Event.the-variants.{Entered, Lost}
+use Rattle.machine.specs.declared.Flags.{Flags}
 use Rattle.machine.specs.declared.State.{State}
 
 -- a step: the next state, the memory after it and what it did
@@ -20,17 +21,25 @@ pub record Outcome : Type 0 where
   pub memory : List ℕ
   pub event : Event
 
+-- where the vectors begin
+abbrev pub vectors : ℕ
+vectors = 0xffe0
+
 -- the vector of an entry
 abbrev pub vectorOf : ℕ → ℕ
-vectorOf number = plus 0xffe0 (2 * number)
+vectorOf number = plus vectors (2 * number)
 
 -- memory after the pushes: PC at SSP-2, FLAG at SSP-4
 unfoldable pub pushed : ℕ → ℕ → ℕ → List ℕ → List ℕ
 pushed ssp flag saved m = storeWord (storeWord m (minus ssp 2) saved) (minus ssp 4) flag
 
+-- "sets E=0 and P=1"
+abbrev pub kernelFlags : Flags → Flags
+kernelFlags f = record { e = false; p = true; i = f .i; v = f .v; c = f .c; s = f .s; z = f .z }
+
 -- the state in the handler, whose address is `handler`
 abbrev pub inKernel : State → ℕ → State
-inKernel st handler = withPc (withStack (withSystem st false true (st .i)) (minus (st .ssp) 4) (st .usp)) handler
+inKernel st handler = withPc (withStack (withFlags st (kernelFlags (st .flags))) (minus (st .ssp) 4) (st .usp)) handler
 
 -- the entry with a number, `saved` being the PC that is pushed
 abbrev pub entered : State → ℕ → ℕ → List ℕ → Outcome

@@ -33,8 +33,9 @@ aluOf code a b =
     (cond (eqb code SHRL) (shrlOf a b)
     (shlOf a b)))))))))))
 
-abbrev pub withFlags : State → Alu → State
-withFlags st r = withArithmetic st (r .v) (r .c) (r .s) (r .z)
+-- V, C, S and Z of a result
+abbrev pub withResult : State → Alu → State
+withResult st r = withArithmetic st (r .v) (r .c) (r .s) (r .z)
 
 -- The state after an instruction but for PC. "LD, ST, jumps, stack and port instructions change no arithmetic flag; RETI loads FLAG. Those
 -- listed from ADD to SHRL, and only they, set S and Z". "CMP keeps Rd". "PUSH and CALL lower SP by 2 ...; POP, RET and RETI read and raise it." "POP SP
@@ -42,18 +43,18 @@ withFlags st r = withArithmetic st (r .v) (r .c) (r .s) (r .z)
 unfoldable pub bodyOf : State → Operation → State
 bodyOf st op =
     cond (eqb (op .code) LD) (withReg st (op .rd) (op .source))
-    (cond (eqb (op .code) CMP) (withFlags st (subOf (op .left) (op .source)))
+    (cond (eqb (op .code) CMP) (withResult st (subOf (op .held) (op .source)))
     (cond (eqb (op .code) LDFLAG) (withReg st (op .rd) (op .source))
     (cond (eqb (op .code) CALL) (withSp st (minus (spOf st) 2))
     (cond (eqb (op .code) IN) (withReg (afterIn st (op .port)) (op .rd) (portValue st (op .port)))
-    (cond (eqb (op .code) OUT) (afterOut st (op .port) (op .left))
+    (cond (eqb (op .code) OUT) (afterOut st (op .port) (op .held))
     (cond (eqb (op .code) PUSH) (withSp st (minus (spOf st) 2))
     (cond (eqb (op .code) POP) (withReg (withSp st (plus (spOf st) 2)) (op .rd) (op .source))
     (cond (eqb (op .code) RET) (withSp st (plus (spOf st) 2))
     (cond (eqb (op .code) RETI) (withFlag (withStack st (plus (st .ssp) 4) (st .usp)) (op .source))
     (cond (eqb (op .code) HALT) (withCondition st condition.Halted)
     (cond (leb ADD (op .code) && leb (op .code) SHRL)
-    (let r : Alu = aluOf (op .code) (op .left) (op .source) in withReg (withFlags st r) (op .rd) (r .value))
+    (let r : Alu = aluOf (op .code) (op .held) (op .source) in withReg (withResult st r) (op .rd) (r .value))
     st)))))))))))
 
 unfoldable pub afterOperation : State → Operation → State

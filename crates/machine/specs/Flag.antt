@@ -2,10 +2,10 @@
 -- Assumes nothing.
 use mathlib.Core.Bool.{Bool}
 use Prim.Native.Nat.{ℕ, _*_, _+_}
-use lib.Dec.{eqb}
 use mir.Val.{boolByte}
-use Rattle.word.specs.Word.{bit}
-use Rattle.machine.specs.State.{withArithmetic, withSystem}
+use Rattle.word.specs.Word.{isSet}
+use Rattle.machine.specs.State.{withFlags}
+use Rattle.machine.specs.declared.Flags.{Flags}
 use Rattle.machine.specs.declared.State.{State}
 
 -- `boolByte` is 1 of a flag that is set, and 0 of one that is not
@@ -13,14 +13,19 @@ unfoldable pub flagWord : Bool → Bool → Bool → Bool → Bool → Bool → 
 flagWord e p i v c s z =
     128 * boolByte e + 64 * boolByte p + 32 * boolByte i + 8 * boolByte v + 4 * boolByte c + 2 * boolByte s + boolByte z
 
+-- flags as a word
+abbrev pub wordOf : Flags → ℕ
+wordOf f = flagWord (f .e) (f .p) (f .i) (f .v) (f .c) (f .s) (f .z)
+
 -- FLAG as a word
 abbrev pub flagOf : State → ℕ
-flagOf st = flagWord (st .e) (st .p) (st .i) (st .v) (st .c) (st .s) (st .z)
+flagOf st = wordOf (st .flags)
 
-abbrev pub isSet : ℕ → ℕ → Bool
-isSet k w = eqb (bit k w) 1
+-- flags from a word: "only the bits EPI and VCSZ are kept"
+abbrev pub flagsFrom : ℕ → Flags
+flagsFrom w =
+    record { e = isSet 7 w; p = isSet 6 w; i = isSet 5 w; v = isSet 3 w; c = isSet 2 w; s = isSet 1 w; z = isSet 0 w }
 
--- FLAG loaded from a word: "only the bits EPI and VCSZ are kept"
+-- FLAG loaded from a word
 abbrev pub withFlag : State → ℕ → State
-withFlag st w =
-    withSystem (withArithmetic st (isSet 3 w) (isSet 2 w) (isSet 1 w) (isSet 0 w)) (isSet 7 w) (isSet 6 w) (isSet 5 w)
+withFlag st w = withFlags st (flagsFrom w)

@@ -5,18 +5,38 @@ use mathlib.Core.List.{List}
 use Prim.Native.Nat.{ℕ, _%_, _*_, _+_, _-_, _/_}
 use lib.Dec.{eqb, leb}
 use lib.ListN.{getD, set}
-use Rattle.word.specs.Word.{lower}
-use Rattle.machine.specs.Flag.{isSet}
-use Rattle.machine.specs.Mmu.{pageIn}
+use Rattle.mmu.specs.Entry.{pageIn}
+use Rattle.word.specs.Word.{isSet, lower}
 use Rattle.machine.specs.State.{withCause, withMmu, withOutput, withTlb}
 use Rattle.machine.specs.declared.State.{State}
 
+-- the input and the output byte
+abbrev pub ioPort : ℕ
+ioPort = 0x18
+
+-- the first and the last of the TLB's ports
+abbrev pub firstTlbPort : ℕ
+firstTlbPort = 0x80
+
+abbrev pub lastTlbPort : ℕ
+lastTlbPort = 0x9e
+
+-- IN gives the violation address, OUT switches the MMU
+abbrev pub mmuPort : ℕ
+mmuPort = 0xa2
+
+abbrev pub causePort : ℕ
+causePort = 0xa4
+
+abbrev pub missedPort : ℕ
+missedPort = 0xa6
+
 -- "80h + 4 × k holds entry k's page, 82h + 4 × k its lower 16 bits", of k from 0 to 7
 abbrev pub isTlbPort : ℕ → Bool
-isTlbPort port = leb 0x80 port && (leb port 0x9e && eqb (port % 2) 0)
+isTlbPort port = leb firstTlbPort port && (leb port lastTlbPort && eqb (port % 2) 0)
 
 abbrev pub entryAt : ℕ → ℕ
-entryAt port = (port - 0x80) / 4
+entryAt port = (port - firstTlbPort) / 4
 
 abbrev pub isPagePort : ℕ → Bool
 isPagePort port = eqb (port % 4) 0
@@ -42,33 +62,33 @@ tlbPort tlb port = cond (isTlbPort port) (entryShown port (getD tlb (entryAt por
 -- byte"; "Any other port, odd ones included, reads 0". Bytes have 0 in the upper half.
 unfoldable pub portIn : ℕ → ℕ → ℕ → ℕ → List ℕ → ℕ → ℕ
 portIn input violation cause missed tlb port =
-    cond (eqb port 0x18) input
-    (cond (eqb port 0xa2) violation
-    (cond (eqb port 0xa4) cause
-    (cond (eqb port 0xa6) missed
+    cond (eqb port ioPort) input
+    (cond (eqb port mmuPort) violation
+    (cond (eqb port causePort) cause
+    (cond (eqb port missedPort) missed
     (tlbPort tlb port))))
 
 abbrev pub portValue : State → ℕ → ℕ
-portValue st port = portIn (st .input) (st .violation) (st .cause) (st .missed) (st .tlb) port
+portValue st port = portIn (st .ports .input) (st .fault .violation) (st .fault .cause) (st .fault .missed) (st .tlb) port
 
 -- the cause after IN: "A4h: IN gives the cause and clears it"
 unfoldable pub causeAfter : ℕ → ℕ → ℕ
-causeAfter cause port = cond (eqb port 0xa4) 0 cause
+causeAfter cause port = cond (eqb port causePort) 0 cause
 
 abbrev pub afterIn : State → ℕ → State
-afterIn st port = withCause st (causeAfter (st .cause) port)
+afterIn st port = withCause st (causeAfter (st .fault .cause) port)
 
 -- After OUT. "18h: ... OUT lower half to output byte"; A2h: "bit 0 of OUT switches the MMU"; the TLB's ports. "OUT to A4h and A6h is
 -- dropped"; "Any other port ... drops writes".
 unfoldable pub outputAfter : ℕ → ℕ → ℕ → ℕ
-outputAfter output port v = cond (eqb port 0x18) (lower v) output
+outputAfter output port v = cond (eqb port ioPort) (lower v) output
 
 unfoldable pub mmuAfter : Bool → ℕ → ℕ → Bool
-mmuAfter mmu port v = cond (eqb port 0xa2) (isSet 0 v) mmu
+mmuAfter mmu port v = cond (eqb port mmuPort) (isSet 0 v) mmu
 
 unfoldable pub tlbAfter : List ℕ → ℕ → ℕ → List ℕ
 tlbAfter tlb port v = cond (isTlbPort port) (set tlb (entryAt port) (entryWritten port (getD tlb (entryAt port) 0) v)) tlb
 
 abbrev pub afterOut : State → ℕ → ℕ → State
 afterOut st port v =
-    withTlb (withMmu (withOutput st (outputAfter (st .output) port v)) (mmuAfter (st .mmu) port v)) (tlbAfter (st .tlb) port v)
+    withTlb (withMmu (withOutput st (outputAfter (st .ports .output) port v)) (mmuAfter (st .mmu) port v)) (tlbAfter (st .tlb) port v)

@@ -14,14 +14,14 @@ unfoldable pub spIn : Bool → ℕ → ℕ → ℕ
 spIn p ssp usp = cond p ssp usp
 
 abbrev pub spOf : State → ℕ
-spOf st = spIn (st .p) (st .ssp) (st .usp)
+spOf st = spIn (st .flags .p) (st .ssp) (st .usp)
 
 -- the value of register n
 unfoldable pub regIn : Bool → ℕ → ℕ → List ℕ → ℕ → ℕ
 regIn p ssp usp regs n = cond (ltb n 13) (getD regs n 0) (cond (eqb n 13) (spIn p ssp usp) usp)
 
 abbrev pub regOf : State → ℕ → ℕ
-regOf st n = regIn (st .p) (st .ssp) (st .usp) (st .regs) n
+regOf st n = regIn (st .flags .p) (st .ssp) (st .usp) (st .regs) n
 
 -- SSP and USP with SP replaced by a value
 unfoldable pub sspWith : Bool → ℕ → ℕ → ℕ
@@ -31,7 +31,7 @@ unfoldable pub uspWith : Bool → ℕ → ℕ → ℕ
 uspWith p usp v = cond p usp v
 
 abbrev pub withSp : State → ℕ → State
-withSp st v = withStack st (sspWith (st .p) (st .ssp) v) (uspWith (st .p) (st .usp) v)
+withSp st v = withStack st (sspWith (st .flags .p) (st .ssp) v) (uspWith (st .flags .p) (st .usp) v)
 
 -- G0-G11 and FP, SSP and USP, with register n replaced by a value
 unfoldable pub regsAfter : List ℕ → ℕ → ℕ → List ℕ
@@ -45,4 +45,4 @@ uspAfter p usp n v = cond (ltb n 13) usp (cond (eqb n 13) (uspWith p usp v) v)
 
 abbrev pub withReg : State → ℕ → ℕ → State
 withReg st n v =
-    withRegs (withStack st (sspAfter (st .p) (st .ssp) n v) (uspAfter (st .p) (st .usp) n v)) (regsAfter (st .regs) n v)
+    withRegs (withStack st (sspAfter (st .flags .p) (st .ssp) n v) (uspAfter (st .flags .p) (st .usp) n v)) (regsAfter (st .regs) n v)

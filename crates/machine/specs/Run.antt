@@ -59,6 +59,30 @@ stoppedEnding condition.Lost = ending.Lost
 unfoldable pub runOf : ℕ → State → List ℕ → Ran
 runOf allowance st m = runFrom allowance st m 0 0
 
+-- ---- steps one after the other, without a run
+
+-- a state and the memory beside it
+pub record Place : Type 0 where
+  pub state : State
+  pub memory : List ℕ
+
+-- the place after so many steps
+unfoldable pub iterate : ℕ → State → List ℕ → Place
+iterate zero st m = record { state = st; memory = m }
+iterate (suc k) st m = let o : Outcome = stepOf st m in iterate k (o .state) (o .memory)
+
+-- ---- runs that go on through kernel entries
+
+-- at most `left` steps more, to a halt or a loss, `n` steps having been done in `t` states
+unfoldable pub throughFrom : ℕ → State → List ℕ → ℕ → ℕ → Ran
+throughFrom zero st m n t = unlessStopped (st .condition) st m n t (ran st m n t ending.Spent)
+throughFrom (suc left) st m n t =
+    let o : Outcome = stepOf st m in
+    unlessStopped (st .condition) st m n t (throughFrom left (o .state) (o .memory) (n + 1) (t + statesOf (o .event)))
+
+unfoldable pub throughOf : ℕ → State → List ℕ → Ran
+throughOf allowance st m = throughFrom allowance st m 0 0
+
 -- the end of a run, without the memory
 abbrev pub finished : Ran → Finished
 finished r = record { state = r .state; steps = r .steps; states = r .states; ending = r .ending }

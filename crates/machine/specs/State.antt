@@ -4,65 +4,67 @@ use mathlib.Core.Bool.{Bool}
 use mathlib.Core.List.{List}
 use Prim.Native.Nat.{ℕ}
 use Rattle.machine.specs.declared.Condition.{Condition}
+use Rattle.machine.specs.declared.FaultRecord.{FaultRecord}
+use Rattle.machine.specs.declared.Flags.{Flags}
+use Rattle.machine.specs.declared.Ports.{Ports}
 use Rattle.machine.specs.declared.State.{State}
 
 -- G0 to G11 and FP
 abbrev pub withRegs : State → List ℕ → State
-withRegs st rs =
-    record { regs = rs; ssp = st .ssp; usp = st .usp; pc = st .pc; e = st .e; p = st .p; i = st .i; v = st .v; c = st .c; s = st .s; z = st .z; pending = st .pending; input = st .input; output = st .output; mmu = st .mmu; condition = st .condition; violation = st .violation; cause = st .cause; missed = st .missed; tlb = st .tlb }
+withRegs s x =
+    record { regs = x; ssp = s .ssp; usp = s .usp; pc = s .pc; flags = s .flags; pending = s .pending; ports = s .ports; mmu = s .mmu; condition = s .condition; fault = s .fault; tlb = s .tlb }
 
 -- SSP and USP
 abbrev pub withStack : State → ℕ → ℕ → State
-withStack st a b =
-    record { regs = st .regs; ssp = a; usp = b; pc = st .pc; e = st .e; p = st .p; i = st .i; v = st .v; c = st .c; s = st .s; z = st .z; pending = st .pending; input = st .input; output = st .output; mmu = st .mmu; condition = st .condition; violation = st .violation; cause = st .cause; missed = st .missed; tlb = st .tlb }
+withStack s a b =
+    record { regs = s .regs; ssp = a; usp = b; pc = s .pc; flags = s .flags; pending = s .pending; ports = s .ports; mmu = s .mmu; condition = s .condition; fault = s .fault; tlb = s .tlb }
 
 abbrev pub withPc : State → ℕ → State
-withPc st a =
-    record { regs = st .regs; ssp = st .ssp; usp = st .usp; pc = a; e = st .e; p = st .p; i = st .i; v = st .v; c = st .c; s = st .s; z = st .z; pending = st .pending; input = st .input; output = st .output; mmu = st .mmu; condition = st .condition; violation = st .violation; cause = st .cause; missed = st .missed; tlb = st .tlb }
+withPc s x =
+    record { regs = s .regs; ssp = s .ssp; usp = s .usp; pc = x; flags = s .flags; pending = s .pending; ports = s .ports; mmu = s .mmu; condition = s .condition; fault = s .fault; tlb = s .tlb }
+
+abbrev pub withFlags : State → Flags → State
+withFlags s x =
+    record { regs = s .regs; ssp = s .ssp; usp = s .usp; pc = s .pc; flags = x; pending = s .pending; ports = s .ports; mmu = s .mmu; condition = s .condition; fault = s .fault; tlb = s .tlb }
+
+abbrev pub withPending : State → ℕ → State
+withPending s x =
+    record { regs = s .regs; ssp = s .ssp; usp = s .usp; pc = s .pc; flags = s .flags; pending = x; ports = s .ports; mmu = s .mmu; condition = s .condition; fault = s .fault; tlb = s .tlb }
+
+abbrev pub withPorts : State → Ports → State
+withPorts s x =
+    record { regs = s .regs; ssp = s .ssp; usp = s .usp; pc = s .pc; flags = s .flags; pending = s .pending; ports = x; mmu = s .mmu; condition = s .condition; fault = s .fault; tlb = s .tlb }
+
+abbrev pub withMmu : State → Bool → State
+withMmu s x =
+    record { regs = s .regs; ssp = s .ssp; usp = s .usp; pc = s .pc; flags = s .flags; pending = s .pending; ports = s .ports; mmu = x; condition = s .condition; fault = s .fault; tlb = s .tlb }
+
+abbrev pub withCondition : State → Condition → State
+withCondition s x =
+    record { regs = s .regs; ssp = s .ssp; usp = s .usp; pc = s .pc; flags = s .flags; pending = s .pending; ports = s .ports; mmu = s .mmu; condition = x; fault = s .fault; tlb = s .tlb }
+
+abbrev pub withFault : State → FaultRecord → State
+withFault s x =
+    record { regs = s .regs; ssp = s .ssp; usp = s .usp; pc = s .pc; flags = s .flags; pending = s .pending; ports = s .ports; mmu = s .mmu; condition = s .condition; fault = x; tlb = s .tlb }
+
+abbrev pub withTlb : State → List ℕ → State
+withTlb s x =
+    record { regs = s .regs; ssp = s .ssp; usp = s .usp; pc = s .pc; flags = s .flags; pending = s .pending; ports = s .ports; mmu = s .mmu; condition = s .condition; fault = s .fault; tlb = x }
 
 -- V, C, S and Z
 abbrev pub withArithmetic : State → Bool → Bool → Bool → Bool → State
 withArithmetic st v c s z =
-    record { regs = st .regs; ssp = st .ssp; usp = st .usp; pc = st .pc; e = st .e; p = st .p; i = st .i; v = v; c = c; s = s; z = z; pending = st .pending; input = st .input; output = st .output; mmu = st .mmu; condition = st .condition; violation = st .violation; cause = st .cause; missed = st .missed; tlb = st .tlb }
-
--- E, P and I
-abbrev pub withSystem : State → Bool → Bool → Bool → State
-withSystem st e p i =
-    record { regs = st .regs; ssp = st .ssp; usp = st .usp; pc = st .pc; e = e; p = p; i = i; v = st .v; c = st .c; s = st .s; z = st .z; pending = st .pending; input = st .input; output = st .output; mmu = st .mmu; condition = st .condition; violation = st .violation; cause = st .cause; missed = st .missed; tlb = st .tlb }
-
-abbrev pub withPending : State → ℕ → State
-withPending st lines =
-    record { regs = st .regs; ssp = st .ssp; usp = st .usp; pc = st .pc; e = st .e; p = st .p; i = st .i; v = st .v; c = st .c; s = st .s; z = st .z; pending = lines; input = st .input; output = st .output; mmu = st .mmu; condition = st .condition; violation = st .violation; cause = st .cause; missed = st .missed; tlb = st .tlb }
+    withFlags st (record { e = st .flags .e; p = st .flags .p; i = st .flags .i; v = v; c = c; s = s; z = z })
 
 abbrev pub withOutput : State → ℕ → State
-withOutput st byte =
-    record { regs = st .regs; ssp = st .ssp; usp = st .usp; pc = st .pc; e = st .e; p = st .p; i = st .i; v = st .v; c = st .c; s = st .s; z = st .z; pending = st .pending; input = st .input; output = byte; mmu = st .mmu; condition = st .condition; violation = st .violation; cause = st .cause; missed = st .missed; tlb = st .tlb }
-
-abbrev pub withMmu : State → Bool → State
-withMmu st on =
-    record { regs = st .regs; ssp = st .ssp; usp = st .usp; pc = st .pc; e = st .e; p = st .p; i = st .i; v = st .v; c = st .c; s = st .s; z = st .z; pending = st .pending; input = st .input; output = st .output; mmu = on; condition = st .condition; violation = st .violation; cause = st .cause; missed = st .missed; tlb = st .tlb }
-
-abbrev pub withCondition : State → Condition → State
-withCondition st x =
-    record { regs = st .regs; ssp = st .ssp; usp = st .usp; pc = st .pc; e = st .e; p = st .p; i = st .i; v = st .v; c = st .c; s = st .s; z = st .z; pending = st .pending; input = st .input; output = st .output; mmu = st .mmu; condition = x; violation = st .violation; cause = st .cause; missed = st .missed; tlb = st .tlb }
+withOutput st byte = withPorts st (record { input = st .ports .input; output = byte })
 
 -- violation address and cause
 abbrev pub withViolation : State → ℕ → ℕ → State
-withViolation st a bits =
-    record { regs = st .regs; ssp = st .ssp; usp = st .usp; pc = st .pc; e = st .e; p = st .p; i = st .i; v = st .v; c = st .c; s = st .s; z = st .z; pending = st .pending; input = st .input; output = st .output; mmu = st .mmu; condition = st .condition; violation = a; cause = bits; missed = st .missed; tlb = st .tlb }
+withViolation st a bits = withFault st (record { violation = a; cause = bits; missed = st .fault .missed })
 
 abbrev pub withCause : State → ℕ → State
-withCause st bits =
-    record { regs = st .regs; ssp = st .ssp; usp = st .usp; pc = st .pc; e = st .e; p = st .p; i = st .i; v = st .v; c = st .c; s = st .s; z = st .z; pending = st .pending; input = st .input; output = st .output; mmu = st .mmu; condition = st .condition; violation = st .violation; cause = bits; missed = st .missed; tlb = st .tlb }
+withCause st bits = withViolation st (st .fault .violation) bits
 
 abbrev pub withMissed : State → ℕ → State
-withMissed st page =
-    record { regs = st .regs; ssp = st .ssp; usp = st .usp; pc = st .pc; e = st .e; p = st .p; i = st .i; v = st .v; c = st .c; s = st .s; z = st .z; pending = st .pending; input = st .input; output = st .output; mmu = st .mmu; condition = st .condition; violation = st .violation; cause = st .cause; missed = page; tlb = st .tlb }
-
-abbrev pub withTlb : State → List ℕ → State
-withTlb st es =
-    record { regs = st .regs; ssp = st .ssp; usp = st .usp; pc = st .pc; e = st .e; p = st .p; i = st .i; v = st .v; c = st .c; s = st .s; z = st .z; pending = st .pending; input = st .input; output = st .output; mmu = st .mmu; condition = st .condition; violation = st .violation; cause = st .cause; missed = st .missed; tlb = es }
-
--- A state whose registers and TLB stand in arrays beside it: `st` with them put back.
-abbrev pub laid : State → List ℕ → List ℕ → State
-laid st rs es = withTlb (withRegs st rs) es
+withMissed st page = withFault st (record { violation = st .fault .violation; cause = st .fault .cause; missed = page })

@@ -2,14 +2,15 @@
 -- Assumes nothing.
 use mathlib.Core.List.{List}
 use Prim.Native.Nat.{ℕ, _-_, _^_}
-use Rattle.machine.specs.Answers.{faultNumber}
+use Rattle.mmu.specs.Answers.{faultNumber}
+use Rattle.mmu.specs.Memory.{stored}
 use Rattle.machine.specs.Enter.{Outcome, enterOf}
 use Rattle.machine.specs.Execute.{afterOperation, eventOf}
-use Rattle.machine.specs.Memory.{stored}
-use Rattle.machine.specs.Mmu.{noted}
-use Rattle.machine.specs.Plan.{Planned, planOf}
+use Rattle.machine.specs.Fault.{noted}
+use Rattle.machine.specs.Plan.{planOf}
 use Rattle.machine.specs.declared.Plan.{Plan}
 use Rattle.machine.specs.declared.Plan.the-variants.{Interrupt, Perform, Trap, Violation}
+use Rattle.machine.specs.declared.Planned.{Planned}
 use Rattle.machine.specs.declared.State.{State}
 use Rattle.machine.specs.declared.Stepped.{Stepped}
 

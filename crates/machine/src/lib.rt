@@ -1,21 +1,49 @@
 // The machine: its state, and what each of its parts answers.
-mod enter;
-mod execute;
+mod entry;
+mod execution;
 mod flag;
-mod memory;
-mod mmu;
-mod operand;
-mod planning;
+mod needs;
 mod port;
+mod record;
 mod register;
-mod running;
+mod run;
+mod stage;
 mod step;
+mod transferring;
+
+use mmu::Fault;
+use mmu::Store;
+pub use run::states_of;
 
 // The condition of a machine.
 pub enum Condition {
     Running,
     Halted,
     Lost,
+}
+
+// FLAG: E interrupts on, P privileged, I I/O privilege, V overflow, C carry, S sign, Z zero.
+pub struct Flags {
+    pub e: bool,
+    pub p: bool,
+    pub i: bool,
+    pub v: bool,
+    pub c: bool,
+    pub s: bool,
+    pub z: bool,
+}
+
+// The input byte and the output byte.
+pub struct Ports {
+    pub input: u8,
+    pub output: u8,
+}
+
+// The record of a fault: the violation address, its cause and the missed page.
+pub struct FaultRecord {
+    pub violation: u16,
+    pub cause: u8,
+    pub missed: u8,
 }
 
 // The state of a machine, without its memory.
@@ -25,80 +53,47 @@ pub struct State {
     pub ssp: u16,
     pub usp: u16,
     pub pc: u16,
-    // FLAG: E interrupts on, P privileged, I I/O privilege, V overflow, C carry, S sign, Z zero.
-    pub e: bool,
-    pub p: bool,
-    pub i: bool,
-    pub v: bool,
-    pub c: bool,
-    pub s: bool,
-    pub z: bool,
+    pub flags: Flags,
     // Pending lines: bit n is interrupt n.
     pub pending: u16,
-    pub input: u8,
-    pub output: u8,
+    pub ports: Ports,
     // MMU on.
     pub mmu: bool,
     pub condition: Condition,
-    // The violation address, its cause and the missed page.
-    pub violation: u16,
-    pub cause: u8,
-    pub missed: u8,
+    pub fault: FaultRecord,
     // TLB entries of 24 bits.
     pub tlb: [u32; 8],
 }
 
-// Why an access is not granted.
-pub enum Fault {
-    // A word at an odd address.
-    Odd,
-    // No valid entry has the page.
-    Missing,
-    // The entry that serves lacks the right.
-    Refused,
-}
-
-// What a right is asked for.
-pub enum Right {
-    Read,
-    Write,
-    Execute,
-}
-
-// The answer to an access: the physical address, or why there is none.
-pub enum Access {
-    At(u16),
-    Fails(Fault),
-}
-
-// The data access of an instruction: a value that needs none, or the logical address of a word or a byte.
+// The data access of an instruction: a value that needs none, or the logical address of a word or a byte, or of the first of two words.
 pub enum Need {
     Value(u16),
     ReadWord(u16),
     ReadByte(u16),
+    ReadTwo(u16),
     WriteWord(u16),
     WriteByte(u16),
 }
 
-// What an instruction stores: nothing, or a word or a byte at a physical address.
-pub enum Store {
-    Nothing,
-    Word(u16, u16),
-    Byte(u16, u16),
+// The data access done: the operand's value, the second word of two, and what is to be stored; or why the access to a logical address is not
+// granted.
+pub enum Transfer {
+    Done(u16, u16, Store),
+    Fails(Fault, u16),
 }
 
-// The data access done: the operand's value and what is to be stored; or why the access to a logical address is not granted.
-pub enum Transfer {
-    Done(u16, Store),
-    Fails(Fault, u16),
+// A data access, and the TLB with its marks.
+pub struct Transferred {
+    pub transfer: Transfer,
+    pub tlb: [u32; 8],
 }
 
 // An instruction before its last tests.
 pub struct Ready {
     pub code: u8,
     pub rd: u8,
-    // The value of Rd before the instruction.
-    pub left: u16,
+    // What Rd holds before the instruction.
+    pub held: u16,
     // The operand's address.
     pub address: u16,
     // The address of the following instruction.
@@ -107,6 +102,8 @@ pub struct Ready {
     pub cost: u8,
     // The operand's value.
     pub source: u16,
+    // The second word of two.
+    pub second: u16,
     pub store: Store,
 }
 
@@ -114,8 +111,8 @@ pub struct Ready {
 pub struct Operation {
     pub code: u8,
     pub rd: u8,
-    // The value of Rd before the instruction.
-    pub left: u16,
+    // What Rd holds before the instruction.
+    pub held: u16,
     // The operand's value: a word or a byte that was read, an immediate or a register.
     pub source: u16,
     // The port of IN or OUT.
@@ -136,6 +133,12 @@ pub enum Plan {
     Trap(u8, u16),
     // Carry out an instruction.
     Perform(Operation),
+}
+
+// A plan, and the state with the marks of its accesses.
+pub struct Planned {
+    pub plan: Plan,
+    pub state: State,
 }
 
 // What a step did.

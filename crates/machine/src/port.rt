@@ -1,9 +1,23 @@
-// Ports. The TLB's entries stand beside the state, in `tlb`; the state's own are not looked at.
+// Ports.
 ghost use mathlib.Core.Path.{_≡_};
 ghost use Prim.Native.Nat.{_≤_};
 ghost use Rattle.machine.specs.Ports as def;
-ghost use Rattle.machine.specs.State.{withTlb};
+use crate::FaultRecord;
+use crate::Ports;
 use crate::State;
+
+// The input and the output byte.
+const IO: u16 = 0x18;
+// The first and the last of the TLB's ports.
+const FIRST_TLB: u16 = 0x80;
+
+const LAST_TLB: u16 = 0x9e;
+// IN gives the violation address, OUT switches the MMU.
+const MMU: u16 = 0xa2;
+
+const CAUSE: u16 = 0xa4;
+
+const MISSED: u16 = 0xa6;
 
 // An entry as its port shows it.
 fn entry_shown(port: u16, entry: u32) -> u16
@@ -25,39 +39,43 @@ fn entry_written(port: u16, entry: u32, v: u16) -> u32
     entry / 65536 * 65536 + (v / 32768 * 32768 + v % 8192) as u32
 }
 
-fn read_entry(tlb: &[u32; 8], port: u16) -> u16
+fn read_entry(tlb: [u32; 8], port: u16) -> u16
     requires { ⌜ (128 ≤ port) × (port ≤ 158) ⌝ }
-    ensures { λ r. ⌜ r ≡ def.tlbPort (now (tlb .entry)) port ⌝ }
+    ensures { λ r. ⌜ r ≡ def.tlbPort tlb port ⌝ }
 {
     if port % 2 == 0 {
-        let k = (port - 128) / 4;
+        let k = (port - FIRST_TLB) / 4;
         return entry_shown(port, tlb[k as usize]);
     }
     0
 }
 
-fn write_entry(tlb: &mut [u32; 8], port: u16, v: u16)
+fn write_entry(mut tlb: [u32; 8], port: u16, v: u16) -> [u32; 8]
     requires { ⌜ (128 ≤ port) × (port ≤ 158) ⌝ }
-    ensures { λ _. ⌜ now (tlb .exit) ≡ def.tlbAfter (now (tlb .entry)) port v ⌝ }
+    ensures { λ r. ⌜ r ≡ def.tlbAfter tlb port v ⌝ }
 {
     if port % 2 == 0 {
-        let k = ((port - 128) / 4) as usize;
+        let k = ((port - FIRST_TLB) / 4) as usize;
         let entry = tlb[k];
         tlb[k] = entry_written(port, entry, v);
     }
+    tlb
 }
 
 impl State {
     // What IN gives.
-    pub fn port_value(self, tlb: &[u32; 8], port: u16) -> u16
-        ensures { λ r. ⌜ r ≡ def.portValue (withTlb self (now (tlb .entry))) port ⌝ }
+    pub fn port_value(self, port: u16) -> u16
+        ensures { λ r. ⌜ r ≡ def.portValue self port ⌝ }
     {
         match port {
-            0x18 => self.input as u16,
-            0xa2 => self.violation,
-            0xa4 => self.cause as u16,
-            0xa6 => self.missed as u16,
-            0x80..=0x9e => read_entry(tlb, port),
+            IO => self.ports.input as u16,
+            MMU => self.fault.violation,
+            CAUSE => self.fault.cause as u16,
+            MISSED => self.fault.missed as u16,
+            FIRST_TLB..=LAST_TLB => {
+                let tlb = self.tlb;
+                read_entry(tlb, port)
+            }
             _ => 0,
         }
     }
@@ -66,28 +84,41 @@ impl State {
     pub fn port_in(mut self, port: u16) -> State
         ensures { λ r. ⌜ r ≡ def.afterIn self port ⌝ }
     {
-        if port == 0xa4 {
-            self.cause = 0;
+        if port == CAUSE {
+            let old = self.fault;
+            let fault = FaultRecord {
+                violation: old.violation,
+                cause: 0,
+                missed: old.missed,
+            };
+            self.fault = fault;
             return self;
         }
         self
     }
 
-    // The state and the TLB after OUT.
-    pub fn port_out(mut self, tlb: &mut [u32; 8], port: u16, v: u16) -> State
-        ensures { λ r. ⌜ withTlb r (now (tlb .exit)) ≡ def.afterOut (withTlb self (now (tlb .entry))) port v ⌝ }
+    // The state after OUT.
+    pub fn port_out(mut self, port: u16, v: u16) -> State
+        ensures { λ r. ⌜ r ≡ def.afterOut self port v ⌝ }
     {
         match port {
-            0x18 => {
-                self.output = (v % 256) as u8;
+            IO => {
+                let old = self.ports;
+                let ports = Ports {
+                    input: old.input,
+                    output: (v % 256) as u8,
+                };
+                self.ports = ports;
                 self
             }
-            0xa2 => {
+            MMU => {
                 self.mmu = v % 2 == 1;
                 self
             }
-            0x80..=0x9e => {
-                write_entry(tlb, port, v);
+            FIRST_TLB..=LAST_TLB => {
+                let old = self.tlb;
+                let tlb = write_entry(old, port, v);
+                self.tlb = tlb;
                 self
             }
             _ => self,

@@ -1,30 +1,36 @@
-// Registers by their numbers. The array of G0-G11 and FP stands beside the state, in `regs`; the state's own is not looked at.
+// Registers by their numbers.
 ghost use mathlib.Core.Path.{_≡_};
 ghost use Rattle.machine.specs.Register as def;
-ghost use Rattle.machine.specs.State.{withPc, withRegs};
+ghost use Rattle.machine.specs.State.{withPc};
 use crate::State;
+
+// The numbers of the registers that are no word of `regs`, and of FP, the last that is.
+pub const FP: u8 = 12;
+
+pub const SP: u8 = 13;
 
 impl State {
     // Register 13: SSP in kernel mode, USP in user mode.
     pub fn sp(self) -> u16
         ensures { λ r. ⌜ r ≡ def.spOf self ⌝ }
     {
-        if self.p { self.ssp } else { self.usp }
+        if self.flags.p { self.ssp } else { self.usp }
     }
 
-    pub fn register(self, regs: &[u16; 13], n: u8) -> u16
-        ensures { λ r. ⌜ r ≡ def.regOf (withRegs self (now (regs .entry))) n ⌝ }
+    pub fn register(self, n: u8) -> u16
+        ensures { λ r. ⌜ r ≡ def.regOf self n ⌝ }
     {
-        if n < 13 {
+        if n < SP {
+            let regs = self.regs;
             return regs[n as usize];
         }
-        if n == 13 { self.sp() } else { self.usp }
+        if n == SP { self.sp() } else { self.usp }
     }
 
     pub fn set_sp(mut self, v: u16) -> State
         ensures { λ r. ⌜ r ≡ def.withSp self v ⌝ }
     {
-        if self.p {
+        if self.flags.p {
             self.ssp = v;
             return self;
         }
@@ -32,14 +38,16 @@ impl State {
         self
     }
 
-    pub fn set_register(mut self, regs: &mut [u16; 13], n: u8, v: u16) -> State
-        ensures { λ r. ⌜ withRegs r (now (regs .exit)) ≡ def.withReg (withRegs self (now (regs .entry))) n v ⌝ }
+    pub fn set_register(mut self, n: u8, v: u16) -> State
+        ensures { λ r. ⌜ r ≡ def.withReg self n v ⌝ }
     {
-        if n < 13 {
+        if n < SP {
+            let mut regs = self.regs;
             regs[n as usize] = v;
+            self.regs = regs;
             return self;
         }
-        if n == 13 {
+        if n == SP {
             return self.set_sp(v);
         }
         self.usp = v;

@@ -1,11 +1,9 @@
--- What holds of each element of a list, and of 0, which stands for the elements past its end.
+-- What holds of each element of a list, of lists made from others.
 -- Assumes nothing.
 use mathlib.Core.List.{List, [], _++_, _∷_}
 use Prim.Native.Nat.{ℕ, suc, zero}
-use lib.ListN.{getD, set}
-
-abbrev pub Each : (ℕ → Type 0) → List ℕ → Type 0
-Each P l = (k : ℕ) → P (getD l k 0)
+use lib.ListN.{set}
+use Rattle.roundtrip.specs.Statement.{Each}
 
 module _ (P : ℕ → Type 0) where
   pub each-cons : (x : ℕ) (xs : List ℕ) → P x → Each P xs → Each P (x ∷ xs)

@@ -8,44 +8,48 @@ use native.Mathlib.Nat.{div-div-eq-div-mul, div-one, pow-suc}
 use native.Mathlib.Omega.{arith}
 use borrow.Author.Tests.{eqb-false, eqb-true, ltb-true}
 use lib.Dec.{eqb, ltb}
-use lib.ListN.{getD, length}
+use lib.ListN.{length}
 use mir.Val.{boolByte}
-use Rattle.image.specs.Decode.{allZeros, byteFrom, conditionFrom, flagGood, goodImage, pendingGood, stateFrom, wordFrom}
-use Rattle.image.specs.Image.{entryBytes, imageOf, wordBytes}
+use Rattle.image.specs.Decode.{conditionFrom, stateFrom}
+use Rattle.image.specs.Image.{entryBytes, imageOf}
+use Rattle.image.specs.Layout.{causeAt, conditionAt, flagAt, imageSize, mmuAt, pendingAt, tlbAt}
+use Rattle.image.specs.Valid.{allZeros, flagGood, goodImage, pendingGood}
 use Rattle.machine.specs.Answers.{conditionNumber}
-use Rattle.machine.specs.Flag.{flagWord, isSet}
+use Rattle.machine.specs.Flag.{flagWord}
 use Rattle.machine.specs.Spelled.{spelled, whole}
 use Rattle.machine.specs.declared.Condition.the-variants.{Halted, Lost, Running}
-use Rattle.word.specs.Word.{bit}
-use Rattle.roundtrip.specs.Cases.{rest, this}
+use Rattle.word.specs.Bytes.{byteFrom, wordBytes, wordFrom}
+use Rattle.word.specs.Cases.{rest, this}
+use Rattle.word.specs.Word.{bit, isSet}
+use Rattle.roundtrip.specs.Statement.{Bytes}
 
 -- ---- the tests of an image
 
 pub record Fields (b : List ℕ) : Type 0 where
-  pub flag : wordFrom b 32 < 256
-  pub gap : wordFrom b 32 / 16 % 2 ≡ 0
-  pub lines : wordFrom b 34 < 1024
-  pub mmu : byteFrom b 38 < 2
-  pub condition : byteFrom b 39 < 3
-  pub cause : byteFrom b 42 < 4
-  pub zeros : allZeros b 45 8 ≡ true
+  pub flag : wordFrom b flagAt < 256
+  pub gap : wordFrom b flagAt / 16 % 2 ≡ 0
+  pub lines : wordFrom b pendingAt < 1024
+  pub mmu : byteFrom b mmuAt < 2
+  pub condition : byteFrom b conditionAt < 3
+  pub cause : byteFrom b causeAt < 4
+  pub zeros : allZeros b tlbAt 8 ≡ true
 
 pub fields : (b : List ℕ) → goodImage b ≡ true → Fields b
 unfolding goodImage flagGood pendingGood
 fields b g =
-    let g0 = this (flagGood (wordFrom b 32)) _ g in
-    let g1 = rest (flagGood (wordFrom b 32)) _ g in
-    let g2 = rest (pendingGood (wordFrom b 34)) _ g1 in
-    let g3 = rest (ltb (byteFrom b 38) 2) _ g2 in
-    let g4 = rest (ltb (byteFrom b 39) 3) _ g3 in
+    let g0 = this (flagGood (wordFrom b flagAt)) _ g in
+    let g1 = rest (flagGood (wordFrom b flagAt)) _ g in
+    let g2 = rest (pendingGood (wordFrom b pendingAt)) _ g1 in
+    let g3 = rest (ltb (byteFrom b mmuAt) 2) _ g2 in
+    let g4 = rest (ltb (byteFrom b conditionAt) 3) _ g3 in
     record {
-      flag = ltb-true _ _ (this (ltb (wordFrom b 32) 256) _ g0);
-      gap = eqb-true _ _ (rest (ltb (wordFrom b 32) 256) _ g0);
-      lines = ltb-true _ _ (this (pendingGood (wordFrom b 34)) _ g1);
-      mmu = ltb-true _ _ (this (ltb (byteFrom b 38) 2) _ g2);
-      condition = ltb-true _ _ (this (ltb (byteFrom b 39) 3) _ g3);
-      cause = ltb-true _ _ (this (ltb (byteFrom b 42) 4) _ g4);
-      zeros = rest (ltb (byteFrom b 42) 4) _ g4;
+      flag = ltb-true _ _ (this (ltb (wordFrom b flagAt) 256) _ g0);
+      gap = eqb-true _ _ (rest (ltb (wordFrom b flagAt) 256) _ g0);
+      lines = ltb-true _ _ (this (pendingGood (wordFrom b pendingAt)) _ g1);
+      mmu = ltb-true _ _ (this (ltb (byteFrom b mmuAt) 2) _ g2);
+      condition = ltb-true _ _ (this (ltb (byteFrom b conditionAt) 3) _ g3);
+      cause = ltb-true _ _ (this (ltb (byteFrom b causeAt) 4) _ g4);
+      zeros = rest (ltb (byteFrom b causeAt) 4) _ g4;
     }
 
 -- ---- the bytes of numbers
@@ -109,10 +113,10 @@ flag-back w h g =
 
 -- ---- the image
 
-pub encoded : (b : List ℕ) → length b ≡ 68 → ((k : ℕ) → getD b k 0 < 256) → goodImage b ≡ true → imageOf (stateFrom b) ≡ b
+pub encoded : (b : List ℕ) → length b ≡ imageSize → Bytes b → goodImage b ≡ true → imageOf (stateFrom b) ≡ b
 unfolding imageOf stateFrom wordBytes entryBytes
 encoded b long small g =
     let f : Fields b = fields b g in
-    let e : imageOf (stateFrom b) ≡ spelled b 0 68 =
+    let e : imageOf (stateFrom b) ≡ spelled b 0 imageSize =
     simp (flag-back _ (f .flag) (f .gap), bit-back _ (f .mmu), condition-back _ (f .condition), high, low, top, middle, bottom, small) in
-    e ∙ sym (whole b 68 long)
+    e ∙ sym (whole b imageSize (omega arith))

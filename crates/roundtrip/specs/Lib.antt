@@ -1,11 +1,9 @@
-pub mod Cases
 pub mod Each
 pub mod Fits
 pub mod Good
 pub mod Images
-pub mod Lengths
-pub mod Plans
 pub mod Ranged
 pub mod RangedSteps
 pub mod Runs
+pub mod Statement
 pub mod Steps

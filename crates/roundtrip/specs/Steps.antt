@@ -1,149 +1,96 @@
 -- A step from a good state leads to a good one: accesses and OUT keep the TLB good, and a fault and an interrupt the cause and the lines.
 -- Assumes nothing.
-use mathlib.Core.Bool.{Bool, cond, false, _&&_}
 use mathlib.Core.List.{List}
-use mathlib.Core.Logic.{_≢_}
 use mathlib.Core.Path.{_≡_, _∙_}
-use Prim.Native.Nat.{ℕ, _+_, _/_, _%_, _<_}
+use Prim.Native.Nat.{ℕ, _<_}
 use native.Mathlib.Omega.{arith}
-use borrow.Author.Tests.{eqb-false}
 use lib.Bits.{or-lt}
-use lib.Dec.{eqb, leb, ltb}
-use lib.ListN.{getD, length, length-set, set}
-use Rattle.decode.specs.Code.{ADD, CALL, CMP, HALT, IN, LD, LDFLAG, OUT, POP, PUSH, RET, RETI, SHRL}
-use Rattle.machine.specs.Answers.{faultNumber}
+use lib.Dec.{eqb, ltb}
+use lib.ListN.{getD, length, length-set}
 use Rattle.machine.specs.Enter.{Outcome, enterOf}
-use Rattle.machine.specs.Execute.{afterOperation, aluOf, bodyOf, withFlags}
-use Rattle.machine.specs.Flag.{isSet}
-use Rattle.machine.specs.Mmu.{marked, noted, withBit}
+use Rattle.machine.specs.Execute.{afterOperation, bodyOf}
+use Rattle.machine.specs.Fault.{noted}
+use Rattle.machine.specs.Kept.{plan-keeps, withMark}
 use Rattle.machine.specs.Plan.{planOf}
-use Rattle.machine.specs.Ports.{afterIn, causeAfter, entryAt, entryWritten, isPagePort, isTlbPort, tlbAfter}
-use Rattle.machine.specs.Register.{regsAfter, spOf, withReg, withSp}
-use Rattle.machine.specs.State.{withCause, withPc, withTlb}
-use Rattle.machine.specs.Step.{commit, stepOf, without}
-use Rattle.machine.specs.declared.Fault.{Fault}
-use Rattle.machine.specs.declared.Fault.the-variants.{Missing, Odd, Refused}
+use Rattle.machine.specs.Ports.{causeAfter, causePort, entryAt, entryWritten, isPagePort, isTlbPort, tlbAfter}
+use Rattle.machine.specs.Register.{regsAfter}
+use Rattle.machine.specs.State.{withPc}
+use Rattle.machine.specs.Step.{commit, stepOf}
+use Rattle.machine.specs.StepLaws.{body-by, enter-by}
 use Rattle.machine.specs.declared.Operation.{Operation}
 use Rattle.machine.specs.declared.Plan.{Plan}
 use Rattle.machine.specs.declared.Plan.the-variants.{Interrupt, Perform, Trap, Violation}
-use Rattle.machine.specs.declared.Right.{Right}
-use Rattle.machine.specs.declared.Right.the-variants.{Execute, Read, Write}
 use Rattle.machine.specs.declared.State.{State}
-use Rattle.word.specs.Word.{plus}
-use Rattle.roundtrip.specs.Cases.{either, otherwise}
+use Rattle.mmu.specs.Marks.{like-zeros, marked-like}
+use Rattle.mmu.specs.declared.Fault.{Fault}
+use Rattle.mmu.specs.declared.Fault.the-variants.{Missing, Odd, Refused}
+use Rattle.mmu.specs.declared.Right.{Right}
+use Rattle.word.specs.Cases.{either}
 use Rattle.roundtrip.specs.Each.{each-set}
-use Rattle.roundtrip.specs.Good.{GoodState, GoodTlb, Zeros}
-use Rattle.roundtrip.specs.Plans.{plan-keeps, withMark}
+use Rattle.roundtrip.specs.Statement.{Each, GoodState, Zeros}
 
--- ---- an entry
-
--- a bit set where it carries into none from bit 13 up
-bit-zeros : (e d : ℕ) (t : Bool) → (t ≡ false → (e + d) / 8192 ≡ e / 8192) → Zeros e → Zeros (cond t e (e + d))
-bit-zeros e d t h z = otherwise Zeros t z (λ f. rw (h f) z)
-
-pub unset : (n : ℕ) → eqb (n % 2) 1 ≡ false → n % 2 ≡ 0
-unset n h = let other : n % 2 ≢ 1 = eqb-false _ _ h in omega arith
-
-referenced : (e : ℕ) → Zeros e → Zeros (withBit 12 e)
-referenced e z = bit-zeros e 4096 (isSet 12 e) (λ h. omega (arith, unset (e / 4096) h)) z
-
-dirty : (e : ℕ) → Zeros e → Zeros (withBit 11 e)
-dirty e z = bit-zeros e 2048 (isSet 11 e) (λ h. omega (arith, unset (e / 2048) h)) z
-
-marked-zeros : (right : Right) (e : ℕ) → Zeros e → Zeros (marked right e)
-marked-zeros Read e z = referenced e z
-marked-zeros Execute e z = referenced e z
-marked-zeros Write e z = dirty (withBit 12 e) (referenced e z)
-
--- "bits 14, 13 stored as 0"
-written-zeros : (port e v : ℕ) → Zeros e → Zeros (entryWritten port e v)
-written-zeros port e v z = either Zeros (isPagePort port) (omega arith) (omega arith)
-
--- ---- the TLB
-
-set-good : (tlb : List ℕ) (k v : ℕ) → GoodTlb tlb → Zeros v → GoodTlb (set tlb k v)
-set-good tlb k v g z = record { eight = length-set tlb k v ∙ g .eight; zeros = each-set Zeros tlb k v (g .zeros) z }
-
-out-good : (tlb : List ℕ) → GoodTlb tlb → (port v : ℕ) → GoodTlb (tlbAfter tlb port v)
-unfolding tlbAfter
-out-good tlb g port v =
-    either GoodTlb (isTlbPort port)
-    (set-good tlb (entryAt port) _ g (written-zeros port (getD tlb (entryAt port) 0) v (g .zeros (entryAt port)))) g
-
-tlb-good : (st : State) (tlb : List ℕ) → GoodState st → GoodTlb tlb → GoodState (withTlb st tlb)
-tlb-good st tlb g t = record { thirteen = g .thirteen; lines = g .lines; causes = g .causes; entries = t }
+-- ---- the plan
 
 mark-good : (st : State) (k : ℕ) (right : Right) → GoodState st → GoodState (withMark st k right)
-mark-good st k right g = tlb-good st _ g (set-good (st .tlb) k _ (g .entries) (marked-zeros right _ (g .entries .zeros k)))
+mark-good st k right g =
+    record {
+      thirteen = g .thirteen;
+      lines = g .lines;
+      causes = g .causes;
+      eight = length-set (st .tlb) k _ ∙ g .eight;
+      zeros = each-set Zeros (st .tlb) k _ (g .zeros) (like-zeros (marked-like right _) ∙ g .zeros k);
+    }
 
 pub plan-good : (st : State) (m : List ℕ) → GoodState st → GoodState ((planOf st m) .state)
-plan-good st m g = plan-keeps GoodState mark-good m st g
+plan-good = plan-keeps GoodState mark-good
 
 -- ---- the instruction
 
-reg-good : (st : State) → GoodState st → (n v : ℕ) → GoodState (withReg st n v)
+regs-long : (regs : List ℕ) (n v : ℕ) → length regs ≡ 13 → length (regsAfter regs n v) ≡ 13
 unfolding regsAfter
-reg-good st g n v =
-    record {
-      thirteen = either (λ (l : List ℕ). length l ≡ 13) (ltb n 13) (length-set (st .regs) n v ∙ g .thirteen) (g .thirteen);
-      lines = g .lines;
-      causes = g .causes;
-      entries = g .entries;
-    }
+regs-long regs n v h = either (λ (l : List ℕ). length l ≡ 13) (ltb n 13) (λ _. length-set regs n v ∙ h) (λ _. h)
 
-cause-good : (st : State) → GoodState st → (bits : ℕ) → bits < 4 → GoodState (withCause st bits)
-cause-good st g bits h = record { thirteen = g .thirteen; lines = g .lines; causes = h; entries = g .entries }
-
-in-good : (st : State) → GoodState st → (port : ℕ) → GoodState (afterIn st port)
+cause-small : (cause port : ℕ) → cause < 4 → causeAfter cause port < 4
 unfolding causeAfter
-in-good st g port = cause-good st g _ (either (λ (c : ℕ). c < 4) (eqb port 0xa4) (omega arith) (g .causes))
+cause-small cause port h = either (λ (c : ℕ). c < 4) (eqb port causePort) (λ _. omega arith) (λ _. h)
 
--- a good state, under a name that does not unfold: else the nested tests below are compared field by field, at each level anew
-record Body (st : State) : Type 0 where
-  good : GoodState st
+-- "bits 14, 13 stored as 0"
+written-zeros : (port e v : ℕ) → Zeros e → Zeros (entryWritten port e v)
+written-zeros port e v z = either Zeros (isPagePort port) (λ _. omega arith) (λ _. omega arith)
 
-body : (st : State) → GoodState st → (op : Operation) → Body (bodyOf st op)
-unfolding bodyOf
-body st g op =
-    either Body (eqb (op .code) LD) (record { good = reg-good st g _ _ })
-    (either Body (eqb (op .code) CMP) (record { good = g })
-    (either Body (eqb (op .code) LDFLAG) (record { good = reg-good st g _ _ })
-    (either Body (eqb (op .code) CALL) (record { good = g })
-    (either Body (eqb (op .code) IN) (record { good = reg-good (afterIn st (op .port)) (in-good st g (op .port)) _ _ })
-    (either Body (eqb (op .code) OUT) (record { good = tlb-good st _ g (out-good (st .tlb) (g .entries) (op .port) (op .left)) })
-    (either Body (eqb (op .code) PUSH) (record { good = g })
-    (either Body (eqb (op .code) POP) (record { good = reg-good (withSp st (plus (spOf st) 2)) g _ _ })
-    (either Body (eqb (op .code) RET) (record { good = g })
-    (either Body (eqb (op .code) RETI) (record { good = g })
-    (either Body (eqb (op .code) HALT) (record { good = g })
-    (either Body (leb ADD (op .code) && leb (op .code) SHRL)
-    (record { good = reg-good (withFlags st (aluOf (op .code) (op .left) (op .source))) g _ _ })
-    (record { good = g }))))))))))))
+module _ (tlb : List ℕ) (port v : ℕ) where
+  out-long : length tlb ≡ 8 → length (tlbAfter tlb port v) ≡ 8
+  unfolding tlbAfter
+  out-long h = either (λ (l : List ℕ). length l ≡ 8) (isTlbPort port) (λ _. length-set tlb (entryAt port) _ ∙ h) (λ _. h)
 
--- ---- entries of the kernel
+  out-zeros : Each Zeros tlb → Each Zeros (tlbAfter tlb port v)
+  unfolding tlbAfter
+  out-zeros h =
+      either (Each Zeros) (isTlbPort port)
+      (λ _. each-set Zeros tlb (entryAt port) _ h (written-zeros port (getD tlb (entryAt port) 0) v (h (entryAt port)))) (λ _. h)
 
-enter-good :
-    (st : State) → GoodState st → (pending : ℕ) → pending < 1024 → (number saved : ℕ) (m : List ℕ)
-    → GoodState ((enterOf st pending number saved m) .state)
-unfolding enterOf
-enter-good st g pending h number saved m =
-    either (λ (o : Outcome). GoodState (o .state)) (eqb (st .ssp % 2) 1) g
-    (record { thirteen = g .thirteen; lines = h; causes = g .causes; entries = g .entries })
-
-noted-good : (fault : Fault) (a : ℕ) (st : State) → GoodState st → GoodState (noted fault a st)
-noted-good Odd a st g = cause-good st g _ (or-lt 2 (st .cause) 2 (g .causes) (omega arith))
-noted-good Missing a st g = g
-noted-good Refused a st g = cause-good st g _ (or-lt 2 (st .cause) 1 (g .causes) (omega arith))
+body-good : (st : State) (op : Operation) → GoodState st → GoodState (bodyOf st op)
+body-good st op g = body-by GoodState st op (search (g, g .zeros, regs-long, cause-small, out-long, out-zeros) fits 20000)
 
 -- ---- the step
 
+enter-good :
+    (st : State) (pending number saved : ℕ) (m : List ℕ) → GoodState st → pending < 1024
+    → GoodState ((enterOf st pending number saved m) .state)
+enter-good st pending number saved m g h =
+    enter-by (λ (o : Outcome). GoodState (o .state)) st pending number saved m (search (g, g .zeros)) (search (g, g .zeros))
+
+noted-good : (why : Fault) (a : ℕ) (st : State) → GoodState st → GoodState (noted why a st)
+noted-good Odd a st g = let h = or-lt 2 (st .fault .cause) 2 (g .causes) (omega arith) in search (g, g .zeros)
+noted-good Missing a st g = search (g, g .zeros)
+noted-good Refused a st g = let h = or-lt 2 (st .fault .cause) 1 (g .causes) (omega arith) in search (g, g .zeros)
+
 commit-good : (x : Plan) (st : State) (m : List ℕ) → GoodState st → GoodState ((commit x st m) .state)
 unfolding commit afterOperation
-commit-good (Interrupt line) st m g = enter-good st g (without (st .pending) line) (omega (arith, g .lines)) line (st .pc) m
-commit-good (Violation fault a) st m g =
-    enter-good (noted fault a st) (noted-good fault a st g) (st .pending) (g .lines) (faultNumber fault) (st .pc) m
-commit-good (Trap number saved) st m g = enter-good st g (st .pending) (g .lines) number saved m
-commit-good (Perform op) st m g = (body (withPc st (op .pc)) g op) .good
+commit-good (Interrupt line) st m g = enter-good st _ _ _ m g (omega (arith, g .lines))
+commit-good (Violation why a) st m g = enter-good (noted why a st) _ _ _ m (noted-good why a st g) (g .lines)
+commit-good (Trap number saved) st m g = enter-good st _ _ _ m g (g .lines)
+commit-good (Perform op) st m g = body-good (withPc st (op .pc)) op (search (g, g .zeros))
 
 pub step-good : (st : State) (m : List ℕ) → GoodState st → GoodState ((stepOf st m) .state)
 unfolding stepOf

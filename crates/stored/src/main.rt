@@ -3,6 +3,9 @@
 // case is written to standard output.
 ghost use Prim.Native.Nat.{_+_, _≤_};
 ghost use lib.ListN.{length};
+ghost use Rattle.image.specs.Layout.{imageSize};
+use image::IMAGE;
+use image::layout::FLAG;
 
 fn least(a: usize, b: usize) -> usize
     ensures { λ r. ⌜ r ≤ a ⌝ }
@@ -13,17 +16,17 @@ fn least(a: usize, b: usize) -> usize
 
 // The listing of one case. Answers whether it was written.
 fn list_case(card: &[u8], lacks: usize, absent: usize, high: u8, low: u8, room: usize) -> bool
-    requires { ⌜ (lacks ≤ 65535) × (absent ≤ 68) × (room ≤ 16380) ⌝ }
+    requires { ⌜ (lacks ≤ 65535) × (absent ≤ imageSize) × (room ≤ 16380) ⌝ }
 {
     let mut memory = [0u8; 65536];
-    let mut image = [0u8; 68];
-    image[32] = high;
-    image[33] = low;
+    let mut image = [0u8; IMAGE];
+    image[FLAG] = high;
+    image[FLAG + 1] = low;
     let mut report = [0u8; 16380];
     let mut text = [0u8; 65536];
     let mut answer = 0;
     let memory_len = 65536 - lacks;
-    let image_len = 68 - absent;
+    let image_len = IMAGE - absent;
     let filled = card::run_card(
         &mut memory[..memory_len],
         &mut image[..image_len],
@@ -40,15 +43,11 @@ fn run_case(cases: &[u8], at: usize) -> usize
     requires { ⌜ at + 9 ≤ length (now cases) ⌝ }
     ensures { λ r. ⌜ r ≤ length (now (cases .entry)) ⌝ }
 {
-    let absent = least(cases[at + 2] as usize, 68);
-    let lacks = image::word_from(cases, at) as usize;
-    let room = least(image::word_from(cases, at + 5) as usize, 16380);
+    let absent = least(cases[at + 2] as usize, IMAGE);
+    let lacks = word::word_from(cases, at) as usize;
+    let room = least(word::word_from(cases, at + 5) as usize, 16380);
     let start = at + 9;
-    let end = start
-        + least(
-            image::word_from(cases, at + 7) as usize,
-            cases.len() - start,
-        );
+    let end = start + least(word::word_from(cases, at + 7) as usize, cases.len() - start);
     let high = cases[at + 3];
     let low = cases[at + 4];
     if list_case(&cases[start..end], lacks, absent, high, low, room) {

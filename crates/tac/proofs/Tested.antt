@@ -4,28 +4,31 @@ use mathlib.Core.List.{List}
 use mathlib.Core.Path.{refl, _≡_}
 use Prim.Native.Nat.{ℕ, _≤_}
 use lib.ListN.{length}
-use Rattle.image.specs.Laws.{report-good, verdict-good}
-use Rattle.image.specs.Refusal.{thenReport, verdictOf}
-use Rattle.image.specs.declared.Verdict.the-variants.{Good}
+use Rattle.image.specs.Laws.{MachineGood, machine-good}
+use Rattle.image.specs.Layout.{imageSize}
+use Rattle.image.specs.Valid.{machineValid}
 use Rattle.machine.specs.Run.{ran, runFrom, runOf, stoppedEnding, unlessStopped}
 use Rattle.machine.specs.declared.Condition.the-variants as condition
 use Rattle.machine.specs.declared.Condition.{Condition}
 use Rattle.machine.specs.declared.Ending.the-variants as ending
 use Rattle.machine.specs.declared.State.{State}
+use Rattle.refusal.specs.Laws.{report-good, then-good}
+use Rattle.refusal.specs.Refusal.{reportFits}
+use Rattle.refusal.specs.declared.Validity.the-variants.{Good}
+use Rattle.report.specs.Layout.{reportSize}
+use Rattle.tac.specs.Call.{runValid}
 
 -- memory, image and report are long enough
-module _ (long : ℕ) (image : List ℕ) (report : ℕ) (e : thenReport (verdictOf long image) report 12 ≡ Good) where
-  first : verdictOf long image ≡ Good
-  first = report-good (verdictOf long image) report 12 e .0
+pub record Passed (long : ℕ) (image : List ℕ) (report : ℕ) : Type 0 where
+  pub memory : long ≡ 65536
+  pub size : length image ≡ imageSize
+  pub room : reportSize ≤ report
 
-  pub memory-long : long ≡ 65536
-  memory-long = verdict-good long image first .0
-
-  pub image-long : length image ≡ 68
-  image-long = verdict-good long image first .1 .0
-
-  pub report-long : 12 ≤ report
-  report-long = report-good (verdictOf long image) report 12 e .1
+pub passed : (long : ℕ) (image : List ℕ) (report : ℕ) → runValid long image report ≡ Good → Passed long image report
+passed long image report e =
+    let both = then-good (machineValid long image) (reportFits report reportSize) e in
+    let m : MachineGood long image = machine-good long image (both .0) in
+    record { memory = m .memory; size = m .size; room = report-good report reportSize (both .1) }
 
 stopped : (x : Condition) (st : State) (m : List ℕ) → unlessStopped x st m 0 0 (ran st m 0 0 ending.Spent) ≡ ran st m 0 0 (stoppedEnding x)
 stopped condition.Running st m = refl

@@ -4,35 +4,37 @@
 use mathlib.Core.List.{List, _++_}
 use Prim.Native.Nat.{ℕ}
 use lib.ListN.{drop, length}
-use Rattle.image.specs.Call.{Call, unlessRefused}
+use Rattle.refusal.specs.Call.{Call, unlessRefused}
 use Rattle.image.specs.Decode.{stateFrom}
 use Rattle.image.specs.Image.{imageOf}
-use Rattle.image.specs.Refusal.{thenReport, verdictOf}
-use Rattle.image.specs.Report.{reportOfRan}
-use Rattle.image.specs.declared.Verdict.{Verdict}
+use Rattle.image.specs.Valid.{machineValid}
+use Rattle.refusal.specs.Refusal.{andThen, reportFits}
+use Rattle.report.specs.Layout.{reportSize}
+use Rattle.report.specs.Report.{reportOfRan}
+use Rattle.refusal.specs.declared.Validity.{Validity}
 use Rattle.machine.specs.Run.{Ran, runOf}
 
 -- the tests of a run and of a view: refusals 1, 2, 3 and 8
-abbrev pub tested : List ℕ → List ℕ → List ℕ → Verdict
-tested m b rep = thenReport (verdictOf (length m) b) (length rep) 12
+abbrev pub runValid : ℕ → List ℕ → ℕ → Validity
+runValid memory b report = andThen (machineValid memory b) (reportFits report reportSize)
 
--- the answer 12, for the bytes of one report, in front of what the report held
+-- the answer, for the bytes of one report, in front of what the report held
 abbrev pub ranCall : Ran → List ℕ → Call
 ranCall r rep =
-    record { answer = 12; memory = r .memory; image = imageOf (r .state); report = reportOfRan r ++ drop 12 rep }
+    record { answer = reportSize; memory = r .memory; image = imageOf (r .state); report = reportOfRan r ++ drop reportSize rep }
 
 -- a run
 unfoldable pub runCall : List ℕ → List ℕ → ℕ → List ℕ → Call
 runCall m b allowance rep =
     let done : Call = ranCall (runOf allowance (stateFrom b) m) rep in
-    unlessRefused (tested m b rep) m b rep done
+    unlessRefused (runValid (length m) b (length rep)) m b rep done
 
 -- a view: the report that a run of allowance 0 would write; memory and image are kept
 abbrev pub viewedCall : List ℕ → List ℕ → List ℕ → Call
 viewedCall m b rep =
-    record { answer = 12; memory = m; image = b; report = reportOfRan (runOf 0 (stateFrom b) m) ++ drop 12 rep }
+    record { answer = reportSize; memory = m; image = b; report = reportOfRan (runOf 0 (stateFrom b) m) ++ drop reportSize rep }
 
 unfoldable pub viewCall : List ℕ → List ℕ → List ℕ → Call
 viewCall m b rep =
     let done : Call = viewedCall m b rep in
-    unlessRefused (tested m b rep) m b rep done
+    unlessRefused (runValid (length m) b (length rep)) m b rep done

@@ -6,26 +6,49 @@ ghost use lib.ListN.{drop, length};
 ghost use Rattle.card.specs.Call.{cardCall};
 ghost use Rattle.image.specs.Decode.{stateFrom};
 ghost use Rattle.image.specs.Image.{imageOf};
-ghost use Rattle.image.specs.Report.{reportOf, reportOfRan};
+ghost use Rattle.image.specs.Layout.{imageSize};
+ghost use Rattle.machine.specs.Flag.{flagOf};
 ghost use Rattle.machine.specs.Run.{runOf, stoppedEnding};
+ghost use Rattle.report.specs.Layout.{reportSize};
+ghost use Rattle.report.specs.Report.{reportOf, reportOfRan};
 ghost use Rattle.tac.specs.Call as def;
-use image::Verdict;
 use machine::Condition;
 use machine::Ending;
+use refusal::Validity;
+use report::REPORT;
+
+// The tests of a run and of a view.
+fn validate(memory: usize, image: &[u8], report: usize) -> Validity
+    ensures { λ r. ⌜ r ≡ def.runValid memory (now (image .entry)) report ⌝ }
+{
+    refusal::and_then(
+        image::validate(memory, image),
+        refusal::report_fits(report, REPORT),
+    )
+}
 
 // A run on buffers that were tested.
 fn run_tested(memory: &mut [u8], image: &mut [u8], allowance: u16, report: &mut [u8])
-    requires { ⌜ (length (now memory) ≡ 65536) × (length (now image) ≡ 68) × (12 ≤ length (now report)) ⌝ }
+    requires { ⌜ (length (now memory) ≡ 65536) × (length (now image) ≡ imageSize) × (reportSize ≤ length (now report)) ⌝ }
     ensures memory { λ _. ⌜ now (memory .exit) ≡ (runOf allowance (stateFrom (now (image .entry))) (now (memory .entry))) .memory ⌝ }
     ensures image { λ _. ⌜ now (image .exit) ≡ imageOf ((runOf allowance (stateFrom (now (image .entry))) (now (memory .entry))) .state) ⌝ }
-    ensures report { λ _. ⌜ now (report .exit) ≡ reportOfRan (runOf allowance (stateFrom (now (image .entry))) (now (memory .entry))) ++ drop 12 (now (report .entry)) ⌝ }
+    ensures report { λ _. ⌜ now (report .exit) ≡ reportOfRan (runOf allowance (stateFrom (now (image .entry))) (now (memory .entry))) ++ drop reportSize (now (report .entry)) ⌝ }
 {
     let state = image::read_image(image);
-    let finished = state.run(memory, allowance);
+    let table = decode::entries();
+    let finished = runner::run(state, memory, allowance, &table);
     let last = finished.state;
     let ending = finished.ending;
+    let flags = last.flags;
     image::write_image(image, last);
-    image::write_report(report, ending, last, finished.steps, finished.states);
+    report::write_report(
+        report,
+        ending,
+        last.pc,
+        flags.word(),
+        finished.steps,
+        finished.states,
+    );
 }
 
 // How a run of no step ends.
@@ -41,12 +64,20 @@ fn ending_at_rest(condition: Condition) -> Ending
 
 // A view of an image that was tested.
 fn view_tested(image: &[u8], report: &mut [u8])
-    requires { ⌜ (length (now image) ≡ 68) × (12 ≤ length (now report)) ⌝ }
-    ensures { λ _. ⌜ now (report .exit) ≡ reportOf (stoppedEnding ((stateFrom (now (image .entry))) .condition)) (stateFrom (now (image .entry))) 0 0 ++ drop 12 (now (report .entry)) ⌝ }
+    requires { ⌜ (length (now image) ≡ imageSize) × (reportSize ≤ length (now report)) ⌝ }
+    ensures { λ _. ⌜ now (report .exit) ≡ reportOf (stoppedEnding ((stateFrom (now (image .entry))) .condition)) ((stateFrom (now (image .entry))) .pc) (flagOf (stateFrom (now (image .entry)))) 0 0 ++ drop reportSize (now (report .entry)) ⌝ }
 {
     let state = image::read_image(image);
     let condition = state.condition;
-    image::write_report(report, ending_at_rest(condition), state, 0, 0);
+    let flags = state.flags;
+    report::write_report(
+        report,
+        ending_at_rest(condition),
+        state.pc,
+        flags.word(),
+        0,
+        0,
+    );
 }
 
 #[no_mangle]
@@ -61,11 +92,11 @@ pub extern "C" fn tac_run(
     ensures image { λ _. ⌜ now (image .exit) ≡ (def.runCall (now (memory .entry)) (now (image .entry)) allowance (now (report .entry))) .image ⌝ }
     ensures report { λ _. ⌜ now (report .exit) ≡ (def.runCall (now (memory .entry)) (now (image .entry)) allowance (now (report .entry))) .report ⌝ }
 {
-    match image::judge_report(image::judge(memory.len(), image), report.len(), 12) {
-        Verdict::Refused(refusal) => image::answer_of(refusal),
-        Verdict::Good => {
+    match validate(memory.len(), image, report.len()) {
+        Validity::Refused(refusal) => refusal::answer_of(refusal),
+        Validity::Good => {
             run_tested(memory, image, allowance, report);
-            12
+            REPORT as u64
         }
     }
 }
@@ -88,13 +119,15 @@ pub extern "C" fn tac_card(
 #[no_mangle]
 pub extern "C" fn tac_view(memory: &[u8], image: &[u8], report: &mut [u8]) -> u64
     ensures answer { λ r. ⌜ r ≡ (def.viewCall (now (memory .entry)) (now (image .entry)) (now (report .entry))) .answer ⌝ }
+    ensures memory { λ _. ⌜ now (memory .exit) ≡ (def.viewCall (now (memory .entry)) (now (image .entry)) (now (report .entry))) .memory ⌝ }
+    ensures image { λ _. ⌜ now (image .exit) ≡ (def.viewCall (now (memory .entry)) (now (image .entry)) (now (report .entry))) .image ⌝ }
     ensures report { λ _. ⌜ now (report .exit) ≡ (def.viewCall (now (memory .entry)) (now (image .entry)) (now (report .entry))) .report ⌝ }
 {
-    match image::judge_report(image::judge(memory.len(), image), report.len(), 12) {
-        Verdict::Refused(refusal) => image::answer_of(refusal),
-        Verdict::Good => {
+    match validate(memory.len(), image, report.len()) {
+        Validity::Refused(refusal) => refusal::answer_of(refusal),
+        Validity::Good => {
             view_tested(image, report);
-            12
+            REPORT as u64
         }
     }
 }

@@ -1,6 +1,8 @@
 -- Words: numbers of 16 bits, below 65536. Document 01, "Registers and state image".
 -- Assumes nothing.
+use mathlib.Core.Bool.{Bool}
 use Prim.Native.Nat.{ℕ, _+_, _-_, _*_, _/_, _%_, _^_}
+use lib.Dec.{eqb}
 
 -- "addition and subtraction on words and addresses wrap at 65,536"
 abbrev pub wrap : ℕ → ℕ
@@ -26,3 +28,6 @@ joined high low = high * 256 + low
 -- bit k of a word, 0 or 1
 abbrev pub bit : ℕ → ℕ → ℕ
 bit k w = w / 2 ^ k % 2
+
+abbrev pub isSet : ℕ → ℕ → Bool
+isSet k w = eqb (bit k w) 1

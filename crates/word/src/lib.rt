@@ -1,5 +1,6 @@
-// Words of 16 bits: results and flags of the arithmetic, logic and shift instructions, signed operands, jump conditions.
+// Words of 16 bits: results and flags of the arithmetic, logic and shift instructions, signed operands, jump conditions, words in bytes.
 mod alu;
+mod bytes;
 mod jump;
 mod signed;
 mod word;
@@ -17,6 +18,11 @@ pub use alu::shra;
 pub use alu::shrl;
 pub use alu::sub;
 pub use alu::xor;
+pub use bytes::put_bytes;
+pub use bytes::put_word;
+pub use bytes::put_words;
+pub use bytes::word_from;
+pub use bytes::words_from;
 pub use jump::Test;
 pub use jump::condition;
 pub use signed::four_bits;

@@ -1,38 +1,60 @@
--- One theorem covers all the rows: each step shows what its row says.
+-- One theorem covers all the rows: the outcome of each step, the whole state and the whole memory, is what its row says.
 -- Assumes nothing.
-use mathlib.Core.List.{List, map, _++_}
+use mathlib.Core.List.{List, [], map, _∷_, _++_}
 use mathlib.Core.Path.{refl, _≡_}
-use Rattle.decode.specs.Code.{HALT}
-use Rattle.decode.specs.Cost.{costOf, costSingle}
-use Rattle.decode.specs.Decode.{fieldsBad, firstOf, hasSecond, operandOf, usesRd, usesRx}
-use Rattle.decode.specs.Opcode.{eight, findModed, findSingle, modeIn, moded, noOperand, opcodeOf, row, singles}
+use Prim.Native.Nat.{ℕ}
+use lib.Count.{trailingZeros}
+use Rattle.decode.specs.Decode.{fieldsBad, firstOf, hasSecond, operandOf, usesRx}
+use Rattle.decode.specs.Instructions.{Opcode, addStates, costOf, divStates, eight, inModes, inRows, known, modeBits, opcodeOf, row, rows, shiftStates, single, statesAt, unknown}
 use Rattle.machine.specs.Answers.{statesOf}
 use Rattle.machine.specs.Enter.{enterOf, pushed}
 use Rattle.machine.specs.Execute.{afterOperation, aluOf, bodyOf, eventOf}
 use Rattle.machine.specs.Flag.{flagWord}
-use Rattle.machine.specs.Memory.{stored}
-use Rattle.machine.specs.Mmu.{byEntry, byTlb, byteAccess, findFrom, findOf, wordAccess}
-use Rattle.machine.specs.Plan.{addressOf, endOf, interruptIn, loadNeed, needOf, permittedIn, planFetch, planFirst, planOf, planOperand, planSecond, storeNeed, transferOf, valueStored}
+use Rattle.machine.specs.Need.{addressOf, loadNeed, needOf, storeNeed, valueStored}
+use Rattle.machine.specs.Plan.{endOf, interruptIn, planFetch, planFirst, planOf, planOperand, planSecond}
 use Rattle.machine.specs.Ports.{causeAfter, mmuAfter, outputAfter, portIn, tlbAfter, tlbPort}
 use Rattle.machine.specs.Register.{regIn, regsAfter, spIn, sspAfter, sspWith, uspAfter, uspWith}
 use Rattle.machine.specs.Step.{commit, stepOf}
-use Rattle.machine.specs.declared.Event.the-variants.{Halted}
+use Rattle.machine.specs.Transfer.{transferOf}
+use Rattle.machine.specs.declared.Event.the-variants.{Entered, Executed, Halted, Lost}
+use Rattle.mmu.specs.Access.{byEntry, byTlb, byteAccess, wordAccess}
+use Rattle.mmu.specs.Lookup.{lookupFrom, lookupOf}
+use Rattle.mmu.specs.Memory.{stored}
 use Rattle.word.specs.Alu.{addOf, addsOf, andOf, divOf, modOf, mulOf, orOf, shlOf, shraOf, shrlOf, subOf, xorOf}
 use Rattle.word.specs.Jump.{conditionOf}
 use Rattle.word.specs.Signed.{signed4}
-use Rattle.worked.specs.Rows.{Row, Shown, further, rules, starred, stepShown}
+use Rattle.worked.specs.Further.{entries, misreadings, pages, results}
+use Rattle.worked.specs.Rows.{Row, expected, memoryOf, starred, stateOf, stepped, valueOf, valuesOf, vectorsFrom}
 
-abbrev pub expected : Row → Shown
-expected r = r .shows
+abbrev pub all : List Row
+all = starred ++ misreadings ++ results ++ pages ++ entries
 
-abbrev pub rows : List Row
-rows = starred ++ further ++ rules
+pub examples : map stepped all ≡ map expected all
+unfolding starred misreadings results pages entries memoryOf stateOf valueOf valuesOf vectorsFrom
+    addOf addsOf andOf divOf modOf mulOf orOf shlOf shraOf shrlOf subOf xorOf conditionOf signed4
+    fieldsBad firstOf hasSecond operandOf usesRx addStates costOf divStates eight inModes inRows modeBits opcodeOf row rows shiftStates single statesAt
+    enterOf pushed afterOperation aluOf bodyOf eventOf flagWord stored byEntry byTlb byteAccess lookupFrom lookupOf wordAccess transferOf
+    addressOf loadNeed needOf storeNeed valueStored endOf interruptIn planFetch planFirst planOf planOperand planSecond trailingZeros
+    causeAfter mmuAfter outputAfter portIn tlbAfter tlbPort regIn regsAfter spIn sspAfter sspWith uspAfter uspWith commit stepOf
+examples = refl
 
--- HALT has the same states in the list of state counts and as an event
-pub halt-states : statesOf Halted ≡ costOf HALT noOperand
-unfolding costOf costSingle
+-- ---- states of events
+
+-- "entry costs 12 states in place of the instruction's (H)", "HALT 5", lost with "0 states"
+pub event-states :
+    (n number pc flag : ℕ) → map statesOf (Executed n ∷ Entered number pc flag ∷ Halted ∷ Lost ∷ []) ≡ (n ∷ 12 ∷ 5 ∷ 0 ∷ [])
+event-states n number pc flag = refl
+
+-- the states of a first byte's instruction
+abbrev pub statesIn : Opcode → ℕ
+statesIn unknown = 0
+statesIn (known r mode) = costOf r mode
+
+-- HALT and SVC have the same states in the list of instructions
+pub halt-states : statesIn (opcodeOf 0xff) ≡ statesOf Halted
+unfolding costOf eight inModes inRows modeBits opcodeOf row rows single statesAt
 halt-states = refl
 
-pub examples : map stepShown rows ≡ map expected rows
-unfolding starred further rules addOf addsOf andOf divOf modOf mulOf orOf shlOf shraOf shrlOf subOf xorOf conditionOf signed4 costOf costSingle fieldsBad firstOf hasSecond operandOf usesRd usesRx eight findModed findSingle modeIn moded opcodeOf row singles enterOf pushed afterOperation aluOf bodyOf eventOf flagWord stored byEntry byTlb byteAccess findFrom findOf wordAccess addressOf endOf interruptIn loadNeed needOf permittedIn planFetch planFirst planOf planOperand planSecond storeNeed transferOf valueStored causeAfter mmuAfter outputAfter portIn tlbAfter tlbPort regIn regsAfter spIn sspAfter sspWith uspAfter uspWith commit stepOf
-examples = refl
+pub svc-states : (number pc flag : ℕ) → statesIn (opcodeOf 0xf0) ≡ statesOf (Entered number pc flag)
+unfolding costOf eight inModes inRows modeBits opcodeOf row rows single statesAt
+svc-states number pc flag = refl

@@ -1,6 +1,6 @@
 //! Sets libtac.a beside the emulator of this package, byte for byte.
 //!
-//! compare [--factor N] [--seed N] [--part words|runs|cards|pairs] [--verbose 1]
+//! compare [--factor N] [--seed N] [--part words|runs|cards|pairs|scenarios] [--scenario NAME] [--verbose 1]
 //! compare --replay FILE
 //!
 //! With `--verbose 1` each case is named before it is tried, for a crash. `--replay` does the case again that a text
@@ -8,14 +8,15 @@
 
 use std::process::exit;
 use std::time::Instant;
-use tac_tests::card::REPORT;
 use tac_tests::case::{self, difference, perform, Call, Case, Emulator, Outcome, OWN};
 use tac_tests::emulator::{Machine, FLAG_BITS, I, P};
 use tac_tests::generate::Maker;
 use tac_tests::isolation::{self, After, Pair};
 use tac_tests::program::Ground;
 use tac_tests::replay::{parse, Replay};
+use tac_tests::report::REPORT;
 use tac_tests::rng::Rng;
+use tac_tests::scenarios::SCENARIOS;
 use tac_tests::{ffi, image, sample};
 
 const LIBRARY: Emulator = Emulator { run: ffi::run, card: ffi::card, view: ffi::view };
@@ -24,20 +25,28 @@ const ROUNDS: u64 = 2;
 const RUNS: u64 = 300_000;
 const CARDS: u64 = 150_000;
 const PAIRS: u64 = 60_000;
+/// Cases of each scenario.
+const EACH: u64 = 8_000;
+
+type Part = (&'static str, fn(&Arguments));
+const PARTS: [Part; 5] =
+    [("words", words), ("runs", runs), ("cards", cards), ("pairs", pairs), ("scenarios", scenarios)];
 
 struct Arguments {
     factor: u64,
     seed: u64,
     part: Option<String>,
+    scenario: Option<String>,
     verbose: bool,
     replay: Option<String>,
 }
 
-const USAGE: &str = "usage: compare [--factor N] [--seed N] [--part words|runs|cards|pairs] [--verbose 1]
+const USAGE: &str = "usage: compare [--factor N] [--seed N] [--part words|runs|cards|pairs|scenarios] [--verbose 1]
+       compare [--factor N] [--seed N] --scenario NAME
        compare --replay FILE";
 
 fn arguments() -> Arguments {
-    let mut result = Arguments { factor: 1, seed: 1, part: None, verbose: false, replay: None };
+    let mut result = Arguments { factor: 1, seed: 1, part: None, scenario: None, verbose: false, replay: None };
     let mut list = std::env::args().skip(1);
     while let Some(name) = list.next() {
         let value = list.next().unwrap_or_default();
@@ -45,8 +54,10 @@ fn arguments() -> Arguments {
             ("--factor", Ok(number)) => result.factor = number,
             ("--seed", Ok(number)) => result.seed = number,
             ("--verbose", Ok(number)) => result.verbose = number != 0,
-            ("--part", Err(_)) if ["words", "runs", "cards", "pairs"].contains(&value.as_str()) => {
-                result.part = Some(value)
+            ("--part", Err(_)) if PARTS.iter().any(|(part, _)| *part == value) => result.part = Some(value),
+            ("--scenario", Err(_)) if SCENARIOS.iter().any(|scenario| scenario.name == value) => {
+                result.part = Some("scenarios".to_string());
+                result.scenario = Some(value);
             }
             ("--replay", _) if !value.is_empty() => result.replay = Some(value),
             _ => {
@@ -219,28 +230,44 @@ fn instruction_place(machine: &Machine, ground: &Ground, d: u16) -> usize {
     ground.frame(&machine.tlb, (address >> 8) as u8) + (address & 0xFF) as usize
 }
 
-fn runs(args: &Arguments) {
-    let start = Instant::now();
-    let (mut bench, mut count) = (Bench::new(args), Count::default());
-    let (mut maker, mut case) = (Maker::new(), Case::empty());
-    for index in 0..RUNS * args.factor {
-        let mut rng = Rng::of_case(args.seed, 20, index);
-        maker.run_case(&mut rng, &mut case);
-        bench.compare(&case, &mut count, &|| format!("runs, case {index}"));
+/// So many random cases, each of its own generator: `part` is a number that no other part has.
+fn random(
+    args: &Arguments,
+    name: &str,
+    part: u64,
+    cases: u64,
+    count: &mut Count,
+    make: &mut dyn FnMut(&mut Rng, &mut Case),
+) {
+    let (mut bench, mut case) = (Bench::new(args), Case::empty());
+    for index in 0..cases * args.factor {
+        make(&mut Rng::of_case(args.seed, part, index), &mut case);
+        bench.compare(&case, count, &|| format!("{name}, case {index}"));
     }
+}
+
+fn runs(args: &Arguments) {
+    let (start, mut count, mut maker) = (Instant::now(), Count::default(), Maker::new());
+    random(args, "runs", 20, RUNS, &mut count, &mut |rng, case| maker.run_case(rng, case));
     count.print("runs", start);
 }
 
 fn cards(args: &Arguments) {
-    let start = Instant::now();
-    let (mut bench, mut count) = (Bench::new(args), Count::default());
-    let (mut maker, mut case) = (Maker::new(), Case::empty());
-    for index in 0..CARDS * args.factor {
-        let mut rng = Rng::of_case(args.seed, 30, index);
-        maker.card_case(&mut rng, &mut case);
-        bench.compare(&case, &mut count, &|| format!("cards, case {index}"));
-    }
+    let (start, mut count, mut maker) = (Instant::now(), Count::default(), Maker::new());
+    random(args, "cards", 30, CARDS, &mut count, &mut |rng, case| maker.card_case(rng, case));
     count.print("cards", start);
+}
+
+/// Each scenario in turn.
+fn scenarios(args: &Arguments) {
+    let (start, mut count) = (Instant::now(), Count::default());
+    for (k, scenario) in SCENARIOS.iter().enumerate() {
+        if args.scenario.as_deref().is_none_or(|name| name == scenario.name) {
+            let name = format!("scenarios, {}", scenario.name);
+            random(args, &name, 50 + k as u64, EACH, &mut count, &mut |rng, case| scenario.case(rng, case));
+        }
+    }
+    count.print("scenarios", start);
 }
 
 /// Demand 3, on the library alone.
@@ -306,9 +333,7 @@ fn main() {
     }
     println!("compare: seed {}, factor {}", args.seed, args.factor);
     let wanted = |name: &str| args.part.as_deref().is_none_or(|part| part == name);
-    type Part = (&'static str, fn(&Arguments));
-    let parts: [Part; 4] = [("words", words), ("runs", runs), ("cards", cards), ("pairs", pairs)];
-    for (name, part) in parts {
+    for (name, part) in PARTS {
         if wanted(name) {
             part(&args);
         }

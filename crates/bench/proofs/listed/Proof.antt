@@ -1,11 +1,12 @@
 -- `bench::listed` meets its contract.
 -- Assumes nothing.
-use mathlib.Core.Path.{subst, sym}
-use Prim.Native.Nat.{ℕ, _≤_}
 use borrow.Author.Needs.{needs}
-use Rattle.bench.specs.Laws.{bench-short, count-is, text-is}
+use Rattle.bench.specs.Laws.{written}
 use Rattle.bench.proofs.listed.Statement.{statement}
 use Rattle.bench.proofs.listed.Tie as tie
+
+add-image : tie.Need-add-image
+add-image c = search needs
 
 array-write-image : tie.Need-array-write-image
 array-write-image c = search needs
@@ -29,12 +30,18 @@ same-length : tie.Need-same-length
 same-length c = search needs
 
 returns : tie.Need-returns
-returns c = (count-is (c .before .before .before .before .before .before .before .before .before .before .before .before .before .before .before .args .card .now) (c .before .before .before .before .before .before .before .before .before .before .before .before .before .before .before .args .text .now) (c .before .before .before .write-listing .last .1 .1 .0) _ (c .before .before .before .write-listing .result) _ (c .before .before .before .before .before .before .before .before .before .before .before .before .before .before .before .pre) (c .before .before .before .before .before .before .before .before .run-card .ensures .1 .0) (c .before .before .before .before .before .before .before .before .run-card .ensures .0) (c .before .before .before .write-listing .ensures .0) (c .before .before .before .write-listing .ensures .1), (text-is (c .before .before .before .before .before .before .before .before .before .before .before .before .before .before .before .args .card .now) (c .before .before .before .before .before .before .before .before .before .before .before .before .before .before .before .args .text .now) (c .before .before .before .write-listing .last .1 .1 .0) _ (c .before .before .before .write-listing .result) _ (c .before .before .before .before .before .before .before .before .before .before .before .before .before .before .before .pre) (c .before .before .before .before .before .before .before .before .run-card .ensures .1 .0) (c .before .before .before .before .before .before .before .before .run-card .ensures .0) (c .before .before .before .write-listing .ensures .0) (c .before .before .before .write-listing .ensures .1), subst (λ (n : ℕ). n ≤ 65536) (sym (count-is (c .before .before .before .before .before .before .before .before .before .before .before .before .before .before .before .args .card .now) (c .before .before .before .before .before .before .before .before .before .before .before .before .before .before .before .args .text .now) (c .before .before .before .write-listing .last .1 .1 .0) _ (c .before .before .before .write-listing .result) _ (c .before .before .before .before .before .before .before .before .before .before .before .before .before .before .before .pre) (c .before .before .before .before .before .before .before .before .run-card .ensures .1 .0) (c .before .before .before .before .before .before .before .before .run-card .ensures .0) (c .before .before .before .write-listing .ensures .0) (c .before .before .before .write-listing .ensures .1))) (bench-short (c .before .before .before .before .before .before .before .before .before .before .before .before .before .before .before .args .card .now))))
+returns c =
+    let listed = c .before .before .before in
+    let ran = listed .before .before .before .before .before in
+    let start = ran .before .before .before .before .before .before .before in
+    written (start .args .card .now) (start .args .text .now) (listed .write-listing .last .1 .1 .0) _ (listed .write-listing .result) _ (start .pre)
+    (ran .run-card .ensures .1 .0) (ran .run-card .ensures .0) (listed .write-listing .ensures .0) (listed .write-listing .ensures .1)
 
 pub listed-spec : {M : Type 1} → statement M
 listed-spec =
     tie.close
     (tie.spec
+    add-image
     array-write-image
     slice-aggregate-run-card
     slice-aggregate-run-card-2

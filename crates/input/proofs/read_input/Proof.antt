@@ -1,13 +1,23 @@
 -- `input::read_input` meets its contract.
 -- Assumes nothing.
+use mathlib.Core.List.{List}
 use mathlib.Core.Path.{refl, _∙_, _≡_}
-use Prim.Native.Nat.{_-_, _≤_}
+use Prim.Native.Nat.{ℕ, _-_, _≤_}
 use native.Mathlib.Omega.{arith}
 use lib.ListN.{length}
 use borrow.Author.Needs.{needs}
-use borrow.Rule.Slice.PartMut.{mid-len, putMid, same-len-mid}
+use borrow.Rule.Slice.PartMut.{mid-len, midOf, putMid, same-len-mid}
 use Rattle.input.proofs.read_input.Statement.{statement}
 use Rattle.input.proofs.read_input.Tie as tie
+
+-- the buffer, with what was read in the part from `count` on: it is as long as before
+abbrev filled : ℕ → List ℕ → List ℕ → List ℕ
+filled count buffer last = putMid count (length buffer - count) buffer last
+
+whole :
+    (count : ℕ) (buffer last : List ℕ) → length last ≡ length (midOf count (length buffer - count) buffer)
+    → length (filled count buffer last) ≡ length buffer
+whole count buffer last e = same-len-mid count (length buffer - count) buffer last e
 
 abbrev Inv-loop : tie.InvT-loop
 Inv-loop buffer₀ count₀ buffer count = (count ≤ length buffer) × (length buffer ≡ length buffer₀)
@@ -31,7 +41,10 @@ read-requires : tie.Need-read-requires Inv-loop μ-loop
 read-requires c κs = search needs
 
 same-length : tie.Need-same-length Inv-loop μ-loop
-same-length c = same-len-mid (c .before .before .before .before .before .before .loop .count) (length (c .before .before .before .before .before .before .loop .buffer) - c .before .before .before .before .before .before .loop .count) (c .before .before .before .before .before .before .loop .buffer) (c .before .before .before .read .last .1 .0) (c .before .before .before .read .kept .1 .0) ∙ c .before .before .before .before .before .before .loop .inv .1
+same-length c =
+    let at = c .before .before .before .before .before .before in
+    let read = c .before .before .before in
+    whole (at .loop .count) (at .loop .buffer) (read .read .last .1 .0) (read .read .kept .1 .0) ∙ at .loop .inv .1
 
 returns : tie.Need-returns Inv-loop μ-loop
 returns c = omega (arith, c .before .before .before .before .before .before .loop .inv .0, c .before .before .before .before .before .before .loop .inv .1)
@@ -49,19 +62,61 @@ count-requires : tie.Need-count-requires Inv-loop μ-loop
 count-requires c κs = search needs
 
 same-length-2 : tie.Need-same-length-2 Inv-loop μ-loop
-same-length-2 c = same-len-mid (c .before .before .before .before .before .before .before .before .before .before .loop .count) (length (c .before .before .before .before .before .before .before .before .before .before .loop .buffer) - c .before .before .before .before .before .before .before .before .before .before .loop .count) (c .before .before .before .before .before .before .before .before .before .before .loop .buffer) (c .before .before .before .before .before .before .before .read .last .1 .0) (c .before .before .before .before .before .before .before .read .kept .1 .0) ∙ c .before .before .before .before .before .before .before .before .before .before .loop .inv .1
+same-length-2 c =
+    let at = c .before .before .before .before .before .before .before .before .before .before in
+    let read = c .before .before .before .before .before .before .before in
+    whole (at .loop .count) (at .loop .buffer) (read .read .last .1 .0) (read .read .kept .1 .0) ∙ at .loop .inv .1
 
 returns-2 : tie.Need-returns-2 Inv-loop μ-loop
-returns-2 c = omega (arith, c .before .before .before .before .before .before .before .before .before .before .loop .inv .0, c .before .before .before .before .before .before .before .before .before .before .loop .inv .1)
+returns-2 c =
+    let at = c .before .before .before .before .before .before .before .before .before .before in
+    omega (arith, at .loop .inv .0, at .loop .inv .1)
 
 add-count : tie.Need-add-count Inv-loop μ-loop
-add-count c = omega (arith, c .before .count .ensures .0 .0, mid-len (c .before .before .before .before .before .before .before .before .before .before .loop .count) (length (putMid (c .before .before .before .before .before .before .before .before .before .before .loop .count) (length (c .before .before .before .before .before .before .before .before .before .before .loop .buffer) - c .before .before .before .before .before .before .before .before .before .before .loop .count) (c .before .before .before .before .before .before .before .before .before .before .loop .buffer) (c .before .before .before .before .before .before .before .read .last .1 .0))) (putMid (c .before .before .before .before .before .before .before .before .before .before .loop .count) (length (c .before .before .before .before .before .before .before .before .before .before .loop .buffer) - c .before .before .before .before .before .before .before .before .before .before .loop .count) (c .before .before .before .before .before .before .before .before .before .before .loop .buffer) (c .before .before .before .before .before .before .before .read .last .1 .0)) (omega arith), same-len-mid (c .before .before .before .before .before .before .before .before .before .before .loop .count) (length (c .before .before .before .before .before .before .before .before .before .before .loop .buffer) - c .before .before .before .before .before .before .before .before .before .before .loop .count) (c .before .before .before .before .before .before .before .before .before .before .loop .buffer) (c .before .before .before .before .before .before .before .read .last .1 .0) (c .before .before .before .before .before .before .before .read .kept .1 .0), c .before .before .before .before .before .before .before .before .before .before .loop .inv .0, c .before .before .before .before .before .before .before .before .before .before .loop .inv .1)
+add-count c =
+    let at = c .before .before .before .before .before .before .before .before .before .before in
+    let read = c .before .before .before .before .before .before .before in
+    let now = filled (at .loop .count) (at .loop .buffer) (read .read .last .1 .0) in
+    omega (
+      arith,
+      c .before .count .ensures .0 .0,
+      mid-len (at .loop .count) (length now) now (omega arith),
+      whole (at .loop .count) (at .loop .buffer) (read .read .last .1 .0) (read .read .kept .1 .0),
+      at .loop .inv .0,
+      at .loop .inv .1,
+    )
 
 loop-less : tie.Need-loop-less Inv-loop μ-loop
-loop-less c = omega (arith, c .before .count .ensures .0 .0, mid-len (c .before .before .before .before .before .before .before .before .before .before .loop .count) (length (putMid (c .before .before .before .before .before .before .before .before .before .before .loop .count) (length (c .before .before .before .before .before .before .before .before .before .before .loop .buffer) - c .before .before .before .before .before .before .before .before .before .before .loop .count) (c .before .before .before .before .before .before .before .before .before .before .loop .buffer) (c .before .before .before .before .before .before .before .read .last .1 .0))) (putMid (c .before .before .before .before .before .before .before .before .before .before .loop .count) (length (c .before .before .before .before .before .before .before .before .before .before .loop .buffer) - c .before .before .before .before .before .before .before .before .before .before .loop .count) (c .before .before .before .before .before .before .before .before .before .before .loop .buffer) (c .before .before .before .before .before .before .before .read .last .1 .0)) (omega arith), same-len-mid (c .before .before .before .before .before .before .before .before .before .before .loop .count) (length (c .before .before .before .before .before .before .before .before .before .before .loop .buffer) - c .before .before .before .before .before .before .before .before .before .before .loop .count) (c .before .before .before .before .before .before .before .before .before .before .loop .buffer) (c .before .before .before .before .before .before .before .read .last .1 .0) (c .before .before .before .before .before .before .before .read .kept .1 .0), c .before .before .before .before .before .before .before .before .before .before .loop .inv .0, c .before .before .before .before .before .before .before .before .before .before .loop .inv .1, c .if2 .left, c .before .before .before .before .before .before .before .before .before .loop-test .taken)
+loop-less c =
+    let at = c .before .before .before .before .before .before .before .before .before .before in
+    let read = c .before .before .before .before .before .before .before in
+    let now = filled (at .loop .count) (at .loop .buffer) (read .read .last .1 .0) in
+    omega (
+      arith,
+      c .before .count .ensures .0 .0,
+      mid-len (at .loop .count) (length now) now (omega arith),
+      whole (at .loop .count) (at .loop .buffer) (read .read .last .1 .0) (read .read .kept .1 .0),
+      at .loop .inv .0,
+      at .loop .inv .1,
+      c .if2 .left,
+      c .before .before .before .before .before .before .before .before .before .loop-test .taken,
+    )
 
 loop-again : tie.Need-loop-again Inv-loop μ-loop
-loop-again c = (omega (arith, c .before .count .ensures .0 .0, mid-len (c .before .before .before .before .before .before .before .before .before .before .loop .count) (length (putMid (c .before .before .before .before .before .before .before .before .before .before .loop .count) (length (c .before .before .before .before .before .before .before .before .before .before .loop .buffer) - c .before .before .before .before .before .before .before .before .before .before .loop .count) (c .before .before .before .before .before .before .before .before .before .before .loop .buffer) (c .before .before .before .before .before .before .before .read .last .1 .0))) (putMid (c .before .before .before .before .before .before .before .before .before .before .loop .count) (length (c .before .before .before .before .before .before .before .before .before .before .loop .buffer) - c .before .before .before .before .before .before .before .before .before .before .loop .count) (c .before .before .before .before .before .before .before .before .before .before .loop .buffer) (c .before .before .before .before .before .before .before .read .last .1 .0)) (omega arith), same-len-mid (c .before .before .before .before .before .before .before .before .before .before .loop .count) (length (c .before .before .before .before .before .before .before .before .before .before .loop .buffer) - c .before .before .before .before .before .before .before .before .before .before .loop .count) (c .before .before .before .before .before .before .before .before .before .before .loop .buffer) (c .before .before .before .before .before .before .before .read .last .1 .0) (c .before .before .before .before .before .before .before .read .kept .1 .0), c .before .before .before .before .before .before .before .before .before .before .loop .inv .0, c .before .before .before .before .before .before .before .before .before .before .loop .inv .1), same-len-mid (c .before .before .before .before .before .before .before .before .before .before .loop .count) (length (c .before .before .before .before .before .before .before .before .before .before .loop .buffer) - c .before .before .before .before .before .before .before .before .before .before .loop .count) (c .before .before .before .before .before .before .before .before .before .before .loop .buffer) (c .before .before .before .before .before .before .before .read .last .1 .0) (c .before .before .before .before .before .before .before .read .kept .1 .0) ∙ c .before .before .before .before .before .before .before .before .before .before .loop .inv .1)
+loop-again c =
+    let at = c .before .before .before .before .before .before .before .before .before .before in
+    let read = c .before .before .before .before .before .before .before in
+    let now = filled (at .loop .count) (at .loop .buffer) (read .read .last .1 .0) in (
+      omega (
+        arith,
+        c .before .count .ensures .0 .0,
+        mid-len (at .loop .count) (length now) now (omega arith),
+        whole (at .loop .count) (at .loop .buffer) (read .read .last .1 .0) (read .read .kept .1 .0),
+        at .loop .inv .0,
+        at .loop .inv .1,
+      ),
+      whole (at .loop .count) (at .loop .buffer) (read .read .last .1 .0) (read .read .kept .1 .0) ∙ at .loop .inv .1,
+    )
 
 same-length-3 : tie.Need-same-length-3 Inv-loop μ-loop
 same-length-3 c = c .before .loop .inv .1

@@ -29,7 +29,14 @@ same-length c = search needs
 
 returns : tie.Need-returns
 unfolding refusedText
-returns c = then (c .before .before .before .before .before .before .before .before .before .before .before .before .before .before .before .before .before .before .put-bytes .ensures) (then (c .before .before .before .before .before .before .before .before .before .before .before .before .before .before .put-decimal .ensures) (then (c .before .before .before .before .before .before .before .before .before .before .put .ensures) (then (c .before .before .before .before .before .before .put-decimal2 .ensures) (c .before .before .put2 .ensures))))
+returns c =
+    let place = c .before .before .before .before .before .before in
+    let space = place .before .before .before .before in
+    let number = space .before .before .before .before in
+    then (number .before .before .before .before .put-bytes .ensures)
+    (then (number .put-decimal .ensures)
+    (then (space .put .ensures)
+    (then (place .put-decimal2 .ensures) (c .before .before .put2 .ensures))))
 
 pub put-refused-spec : {M : Type 1} → statement M
 put-refused-spec =

@@ -23,7 +23,9 @@ same-length c = search needs
 
 returns : tie.Need-returns
 unfolding runsText
-returns c = then (c .before .before .before .before .before .before .before .before .before .before .put-bytes .ensures) (then (c .before .before .before .before .before .before .put-decimal .ensures) (c .before .before .put .ensures))
+returns c =
+    let number = c .before .before .before .before .before .before in
+    then (number .before .before .before .before .put-bytes .ensures) (then (number .put-decimal .ensures) (c .before .before .put .ensures))
 
 pub put-runs-spec : {M : Type 1} → statement M
 put-runs-spec =

@@ -21,7 +21,9 @@ same-length c = search needs
 
 returns : tie.Need-returns
 unfolding listingOf
-returns c = rw (lt-ltb _ _ (c .before .before .before .before .before .before .before .before .if1 .taken)) (whole (then (c .before .before .before .before .before .before .put-runs .ensures) (c .before .before .put-lines .ensures)))
+returns c =
+    let runs = c .before .before .before .before .before .before in
+    rw (lt-ltb _ _ (runs .before .before .if1 .taken)) (whole (then (runs .put-runs .ensures) (c .before .before .put-lines .ensures)))
 
 same-length-2 : tie.Need-same-length-2
 same-length-2 c = search needs

@@ -1,17 +1,20 @@
 -- `stored::list_case` meets its contract.
 -- Assumes nothing.
-use mathlib.Core.Path.{subst, sym, _≡_}
-use Prim.Native.Nat.{min, ℕ, _-_, _≤_}
-use native.Mathlib.Nat.{min-le-right}
+use mathlib.Core.Path.{sym}
+use Prim.Native.Nat.{ℕ, _+_, _-_}
 use native.Mathlib.Omega.{arith}
 use lib.ListN.{length-replicate, replicate, set}
 use lib.Seq.{length-take-le}
 use borrow.Author.Needs.{needs}
+use Rattle.image.specs.Layout.{flagAt, imageSize}
 use Rattle.stored.proofs.list_case.Statement.{statement}
 use Rattle.stored.proofs.list_case.Tie as tie
 
 array-write-image : tie.Need-array-write-image
 array-write-image c = search needs
+
+add-image : tie.Need-add-image
+add-image c = search needs
 
 array-write-image-2 : tie.Need-array-write-image-2
 array-write-image-2 c = search needs
@@ -26,19 +29,26 @@ array-borrow-prefix-memory : tie.Need-array-borrow-prefix-memory
 array-borrow-prefix-memory c = search needs
 
 slice-aggregate-run-card : tie.Need-slice-aggregate-run-card
-slice-aggregate-run-card c = sym (length-take-le (65536 - c .before .before .args .lacks) (replicate 65536 0) (omega (arith, length-replicate {A = ℕ} 65536 0)))
+slice-aggregate-run-card c =
+    let lacks = c .before .before .args .lacks in
+    sym (length-take-le (65536 - lacks) (replicate 65536 0) (omega (arith, length-replicate {A = ℕ} 65536 0)))
 
 array-borrow-prefix-image : tie.Need-array-borrow-prefix-image
 array-borrow-prefix-image c = search needs
 
 slice-aggregate-run-card-2 : tie.Need-slice-aggregate-run-card-2
-slice-aggregate-run-card-2 c = sym (length-take-le (68 - c .before .before .before .args .absent) (set (set (replicate 68 0) 32 (c .before .before .before .args .high)) 33 (c .before .before .before .args .low)) (omega arith))
+slice-aggregate-run-card-2 c =
+    let start = c .before .before .before .args in
+    let image = set (set (replicate imageSize 0) flagAt (start .high)) (flagAt + 1) (start .low) in
+    sym (length-take-le (imageSize - start .absent) image (omega arith))
 
 array-borrow-prefix-report : tie.Need-array-borrow-prefix-report
 array-borrow-prefix-report c = search needs
 
 slice-aggregate-run-card-3 : tie.Need-slice-aggregate-run-card-3
-slice-aggregate-run-card-3 c = sym (length-take-le (c .before .before .before .before .args .room) (replicate 16380 0) (omega (arith, length-replicate {A = ℕ} 16380 0, c .before .before .before .before .pre .2)))
+slice-aggregate-run-card-3 c =
+    let start = c .before .before .before .before in
+    sym (length-take-le (start .args .room) (replicate 16380 0) (omega (arith, length-replicate {A = ℕ} 16380 0, start .pre .2)))
 
 run-card-requires : tie.Need-run-card-requires
 run-card-requires c κs = search needs
@@ -52,11 +62,10 @@ write-listing-requires c κs = search needs
 array-share-prefix-text : tie.Need-array-share-prefix-text
 array-share-prefix-text c = search needs
 
-below : (n k l : ℕ) → n ≡ min k l → n ≤ l
-below n k l e = subst (λ (x : ℕ). x ≤ l) (sym e) (min-le-right k l)
-
 slice-aggregate-write-all : tie.Need-slice-aggregate-write-all
-slice-aggregate-write-all c = sym (length-take-le _ (c .before .before .before .write-listing .last .1 .1 .0) (omega (arith, below _ _ _ (c .before .before .before .write-listing .ensures .0), c .before .before .before .write-listing .kept .1 .1 .0)))
+slice-aggregate-write-all c =
+    let listed = c .before .before .before .write-listing in
+    sym (length-take-le _ (listed .last .1 .1 .0) (omega (arith, listed .ensures .0, listed .kept .1 .1 .0)))
 
 write-all-requires : tie.Need-write-all-requires
 write-all-requires c κs = search needs
@@ -69,6 +78,7 @@ list-case-spec =
     tie.close
     (tie.spec
     array-write-image
+    add-image
     array-write-image-2
     sub-memory-len
     sub-image-len

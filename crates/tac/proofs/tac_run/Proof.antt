@@ -1,20 +1,14 @@
 -- `tac::tac_run` meets its contract.
 -- Assumes nothing.
-use mathlib.Core.Path.{refl, _≡_}
-use lib.ListN.{length}
-use borrow.Author.Needs.{needs}
-use Rattle.image.specs.Refusal.{thenReport, verdictOf}
-use Rattle.image.specs.declared.Verdict.the-variants.{Good}
+use mathlib.Core.Path.{refl, sym, _∙_}
 use Rattle.tac.specs.Call.{runCall}
-use Rattle.tac.proofs.Tested.{image-long, memory-long, report-long}
+use Rattle.tac.proofs.Tested.{passed}
+use borrow.Author.Needs.{needs}
 use Rattle.tac.proofs.tac_run.Statement.{statement}
 use Rattle.tac.proofs.tac_run.Tie as tie
 
-judge-requires : tie.Need-judge-requires
-judge-requires c κs = search needs
-
-judge-report-requires : tie.Need-judge-report-requires
-judge-report-requires c κs = search needs
+validate-requires : tie.Need-validate-requires
+validate-requires c κs = search needs
 
 enum-known-refusal : tie.Need-enum-known-refusal
 enum-known-refusal c = search needs
@@ -26,14 +20,17 @@ enum-told : tie.Need-enum-told
 enum-told c = search needs
 
 run-tested-requires : tie.Need-run-tested-requires
-run-tested-requires c κs = let good : thenReport (verdictOf (length (c .before .before .before .before .before .before .before .before .before .before .before .args .memory .now)) (c .before .before .before .before .before .before .before .before .before .before .before .args .image .now)) (length (c .before .before .before .before .before .before .before .before .before .before .before .args .report .now)) 12 ≡ Good = rw (← c .before .before .before .before .before .before .judge .ensures, ← c .before .before .before .before .before .judge-report .ensures) (c .before .before .before .enum-told .given .1) in (memory-long _ _ _ good, image-long _ _ _ good, report-long _ _ _ good)
+run-tested-requires c κs =
+    let p = passed _ _ _ (sym (c .before .before .before .before .before .validate .ensures) ∙ c .before .before .before .enum-told .given .1) in
+    (p .memory, p .size, p .room)
 
 same-length : tie.Need-same-length
 same-length c = search needs
 
 returns : tie.Need-returns
 unfolding runCall
-returns c = rw (← c .before .before .before .before .before .judge .ensures, ← c .before .before .before .before .judge-report .ensures, c .before .before .refusal .given .1) (c .answer-of .ensures, (refl, (refl, refl)))
+returns c =
+    rw (← c .before .before .before .before .validate .ensures, c .before .before .refusal .given .1) (c .answer-of .ensures, (refl, (refl, refl)))
 
 same-length-2 : tie.Need-same-length-2
 same-length-2 c = search needs
@@ -46,14 +43,15 @@ same-length-4 c = search needs
 
 returns-2 : tie.Need-returns-2
 unfolding runCall
-returns-2 c = rw (← c .before .before .before .before .before .before .before .before .before .before .before .before .before .judge .ensures, ← c .before .before .before .before .before .before .before .before .before .before .before .before .judge-report .ensures, c .before .before .before .before .before .before .before .before .before .before .enum-told .given .1) (refl, c .before .before .before .before .before .before .run-tested .ensures)
+returns-2 c =
+    let tested = c .before .before .before .before .before .before .before .before .before .before .before .before in
+    rw (← tested .validate .ensures, c .before .before .before .before .before .before .before .before .before .before .enum-told .given .1) (refl, c .before .before .before .before .before .before .run-tested .ensures)
 
 pub tac-run-spec : {M : Type 1} → statement M
 tac-run-spec =
     tie.close
     (tie.spec
-    judge-requires
-    judge-report-requires
+    validate-requires
     enum-known-refusal
     answer-of-requires
     enum-told

@@ -10,6 +10,9 @@ read-image-requires c κs = search needs
 ending-at-rest-requires : tie.Need-ending-at-rest-requires
 ending-at-rest-requires c κs = search needs
 
+word-requires : tie.Need-word-requires
+word-requires c κs = search needs
+
 write-report-requires : tie.Need-write-report-requires
 write-report-requires c κs = search needs
 
@@ -17,7 +20,10 @@ same-length : tie.Need-same-length
 same-length c = search needs
 
 returns : tie.Need-returns
-returns c = rw (← c .before .before .before .before .before .read-image .ensures, ← c .before .before .before .ending-at-rest .ensures) (c .before .before .write-report .ensures)
+returns c =
+    let read = c .before .before .before .before .before .before .before in
+    rw (← read .read-image .ensures, ← c .before .before .before .before .ending-at-rest .ensures, ← c .before .before .before .word .ensures)
+    (c .before .before .write-report .ensures)
 
 pub view-tested-spec : {M : Type 1} → statement M
 view-tested-spec =
@@ -25,6 +31,7 @@ view-tested-spec =
     (tie.spec
     read-image-requires
     ending-at-rest-requires
+    word-requires
     write-report-requires
     same-length
     returns)

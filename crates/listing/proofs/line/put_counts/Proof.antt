@@ -5,14 +5,17 @@ use Rattle.listing.proofs.Wrote.{then}
 use Rattle.listing.proofs.line.put_counts.Statement.{statement}
 use Rattle.listing.proofs.line.put_counts.Tie as tie
 
-word-in-requires : tie.Need-word-in-requires
-word-in-requires c κs = search needs
+word-from-requires : tie.Need-word-from-requires
+word-from-requires c κs = search needs
 
-word-in-requires-2 : tie.Need-word-in-requires-2
-word-in-requires-2 c κs = search needs
+word-from-requires-2 : tie.Need-word-from-requires-2
+word-from-requires-2 c κs = search needs
 
-word-in-requires-3 : tie.Need-word-in-requires-3
-word-in-requires-3 c κs = search needs
+add-word-from : tie.Need-add-word-from
+add-word-from c = search needs
+
+word-from-requires-3 : tie.Need-word-from-requires-3
+word-from-requires-3 c κs = search needs
 
 cast-put-decimal : tie.Need-cast-put-decimal
 cast-put-decimal c = search needs
@@ -45,15 +48,23 @@ same-length : tie.Need-same-length
 same-length c = search needs
 
 returns : tie.Need-returns
-returns c = then (rw (c .before .before .before .before .before .before .before .before .before .before .before .before .before .before .before .before .before .before .word-in .ensures) at (c .before .before .before .before .before .before .before .before .before .before .before .before .before .before .put-decimal .ensures)) (then (c .before .before .before .before .before .before .before .before .before .before .put .ensures) (then (rw (c .before .before .before .before .before .before .before .before .before .before .before .before .before .before .before .before .before .word-in2 .ensures, c .before .before .before .before .before .before .before .before .before .before .before .before .before .before .before .before .word-in3 .ensures) at (c .before .before .before .before .before .before .put-decimal2 .ensures)) (c .before .before .put2 .ensures)))
+returns c =
+    let states = c .before .before .before .before .before .before in
+    let space = states .before .before .before .before in
+    let steps = space .before .before .before .before in
+    let words = steps .before .before in
+    then (rw (words .before .before .word-from .ensures) at (steps .put-decimal .ensures))
+    (then (space .put .ensures)
+    (then (rw (words .before .word-from2 .ensures, words .word-from3 .ensures) at (states .put-decimal2 .ensures)) (c .before .before .put2 .ensures)))
 
 pub put-counts-spec : {M : Type 1} → statement M
 put-counts-spec =
     tie.close
     (tie.spec
-    word-in-requires
-    word-in-requires-2
-    word-in-requires-3
+    word-from-requires
+    word-from-requires-2
+    add-word-from
+    word-from-requires-3
     cast-put-decimal
     put-decimal-requires
     put-requires

@@ -27,7 +27,11 @@ same-length : tie.Need-same-length
 same-length c = search needs
 
 returns : tie.Need-returns
-returns c = then (c .before .before .before .before .before .before .before .before .before .before .before .before .before .before .before .put-ending .ensures) (then (c .before .before .before .before .before .before .before .before .before .before .before .put .ensures) (then (c .before .before .before .before .before .before .put-number .ensures) (c .before .before .put2 .ensures)))
+returns c =
+    let number = c .before .before .before .before .before .before in
+    let space = number .before .before .before .before .before in
+    then (space .before .before .before .before .put-ending .ensures)
+    (then (space .put .ensures) (then (number .put-number .ensures) (c .before .before .put2 .ensures)))
 
 pub put-end-spec : {M : Type 1} → statement M
 put-end-spec =

@@ -56,7 +56,9 @@ same-length-4 c = search needs
 
 returns-4 : tie.Need-returns-4
 unfolding endingText
-returns-4 c = rw (ne-eqb _ _ (c .before .before .before .before .before .match .rest .0 .0 .1), ne-eqb _ _ (c .before .before .before .before .before .match .rest .0 .1), ne-eqb _ _ (c .before .before .before .before .before .match .rest .1)) (c .before .before .put-bytes4 .ensures)
+returns-4 c =
+    let other = c .before .before .before .before .before .match .rest in
+    rw (ne-eqb _ _ (other .0 .0 .1), ne-eqb _ _ (other .0 .1), ne-eqb _ _ (other .1)) (c .before .before .put-bytes4 .ensures)
 
 pub put-ending-spec : {M : Type 1} → statement M
 put-ending-spec =

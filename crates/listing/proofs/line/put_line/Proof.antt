@@ -21,7 +21,10 @@ same-length c = search needs
 
 returns : tie.Need-returns
 unfolding lineOf
-returns c = simp append-assoc at (then (c .before .before .before .before .before .before .before .before .before .before .put-end .ensures) (then (c .before .before .before .before .before .before .put-counts .ensures) (c .before .before .put-registers .ensures)))
+returns c =
+    let counts = c .before .before .before .before .before .before in
+    let line = then (counts .before .before .before .before .put-end .ensures) (then (counts .put-counts .ensures) (c .before .before .put-registers .ensures)) in
+    simp append-assoc at line
 
 pub put-line-spec : {M : Type 1} → statement M
 put-line-spec =

@@ -5,11 +5,11 @@ use Rattle.listing.proofs.Wrote.{then}
 use Rattle.listing.proofs.line.put_registers.Statement.{statement}
 use Rattle.listing.proofs.line.put_registers.Tie as tie
 
-word-in-requires : tie.Need-word-in-requires
-word-in-requires c κs = search needs
+word-from-requires : tie.Need-word-from-requires
+word-from-requires c κs = search needs
 
-word-in-requires-2 : tie.Need-word-in-requires-2
-word-in-requires-2 c κs = search needs
+word-from-requires-2 : tie.Need-word-from-requires-2
+word-from-requires-2 c κs = search needs
 
 put-hex-requires : tie.Need-put-hex-requires
 put-hex-requires c κs = search needs
@@ -27,14 +27,20 @@ same-length : tie.Need-same-length
 same-length c = search needs
 
 returns : tie.Need-returns
-returns c = then (rw (c .before .before .before .before .before .before .before .before .before .before .before .before .before .before .before .before .before .word-in .ensures) at (c .before .before .before .before .before .before .before .before .before .before .before .before .before .before .put-hex .ensures)) (then (c .before .before .before .before .before .before .before .before .before .before .put .ensures) (then (rw (c .before .before .before .before .before .before .before .before .before .before .before .before .before .before .before .before .word-in2 .ensures) at (c .before .before .before .before .before .before .put-hex2 .ensures)) (c .before .before .put2 .ensures)))
+returns c =
+    let flag = c .before .before .before .before .before .before in
+    let space = flag .before .before .before .before in
+    let pc = space .before .before .before .before in
+    then (rw (pc .before .before .before .word-from .ensures) at (pc .put-hex .ensures))
+    (then (space .put .ensures)
+    (then (rw (pc .before .before .word-from2 .ensures) at (flag .put-hex2 .ensures)) (c .before .before .put2 .ensures)))
 
 pub put-registers-spec : {M : Type 1} → statement M
 put-registers-spec =
     tie.close
     (tie.spec
-    word-in-requires
-    word-in-requires-2
+    word-from-requires
+    word-from-requires-2
     put-hex-requires
     put-requires
     put-hex-requires-2

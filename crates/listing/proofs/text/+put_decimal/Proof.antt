@@ -34,7 +34,9 @@ module _ {t₀ t₁ : List ℕ} {at₀ at₁ : ℕ} where
   one-digit zero n d p h e w = absurd (p refl)
   one-digit (suc k) n d p h e w = rw (decimal-short k n h, ← e) w
 
-  one-more : (k n d : ℕ) → (k ≡ 0 → ⊥) → 10 ≤ n → d ≡ digitOf (n % 10) → Wrote t₀ t₁ at₀ at₁ (decimalOf (k - 1) (n / 10) ++ (d ∷ [])) → Wrote t₀ t₁ at₀ at₁ (decimalOf k n)
+  one-more :
+      (k n d : ℕ) → (k ≡ 0 → ⊥) → 10 ≤ n → d ≡ digitOf (n % 10) → Wrote t₀ t₁ at₀ at₁ (decimalOf (k - 1) (n / 10) ++ (d ∷ []))
+      → Wrote t₀ t₁ at₀ at₁ (decimalOf k n)
   one-more zero n d p h e w = absurd (p refl)
   one-more (suc k) n d p h e w = rw (decimal-long k n h, ← e) (rw sub-one at w)
 
@@ -56,7 +58,9 @@ module _ (t : ℕ) where
   same-length c = search needs
 
   returns-2 : lts.Need-returns-2 (claims t) (here t) reads.Post
-  returns-2 c = one-digit _ _ _ (c .before .before .before .before .before .before .if1 .left) (c .before .before .before .before .before .if2 .taken) (c .before .before .before .digit .ensures) (c .before .before .put .ensures)
+  returns-2 c =
+      let tested = c .before .before .before .before .before in
+      one-digit _ _ _ (tested .before .if1 .left) (tested .if2 .taken) (c .before .before .before .digit .ensures) (c .before .before .put .ensures)
 
   sub-put-decimal : lts.Need-sub-put-decimal (claims t) (here t) reads.Post
   sub-put-decimal c = search needs
@@ -77,7 +81,11 @@ module _ (t : ℕ) where
   same-length-2 c = search needs
 
   returns-3 : lts.Need-returns-3 (claims t) (here t) reads.Post
-  returns-3 c = one-more _ _ _ (c .before .before .before .before .before .before .before .before .before .before .if1 .left) (c .before .before .before .before .before .before .before .before .before .if2 .left) (c .before .before .before .digit2 .ensures) (then (c .before .before .before .before .before .before .before .put-decimal .ensures) (c .before .before .put2 .ensures))
+  returns-3 c =
+      let tenth = c .before .before .before .before .before .before .before in
+      let tested = tenth .before .before in
+      one-more _ _ _ (tested .before .if1 .left) (tested .if2 .left) (c .before .before .before .digit2 .ensures)
+      (then (tenth .put-decimal .ensures) (c .before .before .put2 .ensures))
 
 pub +put-decimal-spec : {M : Type 1} → statement M
 +put-decimal-spec =

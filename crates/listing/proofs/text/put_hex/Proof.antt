@@ -40,7 +40,10 @@ same-length c = search needs
 
 returns : tie.Need-returns
 unfolding hexOf
-returns c = rw (c .before .before .before .before .before .before .before .before .digit .ensures, c .before .before .before .before .before .before .before .digit2 .ensures, c .before .before .before .before .before .before .digit3 .ensures, c .before .before .before .before .before .digit4 .ensures) at (c .before .before .put-bytes .ensures)
+returns c =
+    let last = c .before .before .before .before .before in
+    rw (last .before .before .before .digit .ensures, last .before .before .digit2 .ensures, last .before .digit3 .ensures, last .digit4 .ensures)
+    at (c .before .before .put-bytes .ensures)
 
 pub put-hex-spec : {M : Type 1} → statement M
 put-hex-spec =

@@ -7,7 +7,7 @@ use mir.Val.{ofZ, toZ}
 use borrow.Author.Needs.{needs}
 use Rattle.word.specs.Signed.{word}
 use Rattle.word.specs.Word.{plus}
-use Rattle.machine.specs.Plan.{addressOf}
+use Rattle.machine.specs.Need.{addressOf}
 use Rattle.machine.proofs.State.address.Statement.{statement}
 use Rattle.machine.proofs.State.address.Tie as tie
 
@@ -74,7 +74,8 @@ returns-3 c = rw (c .enum-told .given .1)
 returns-4 : tie.Need-returns-4
 unfolding addressOf
 returns-4 c =
-    let held : toZ w16 (ofZ w16 (c .before .before .before .before .operand3 .given .0 .0)) ≡ c .before .before .before .before .operand3 .given .0 .0 = search needs in
+    let d = c .before .before .before .before .operand3 .given .0 .0 in
+    let held : toZ w16 (ofZ w16 d) ≡ d = search needs in
     rw (c .before .before .before .before .operand3 .given .1, c .plus2 .ensures, c .before .to-word .ensures, ← c .before .before .register2 .ensures)
     (ap (λ (z : ℤ). plus (c .before .before .register2 .result) (word z)) held)
 

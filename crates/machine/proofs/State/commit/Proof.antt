@@ -1,11 +1,8 @@
 -- `machine::State::commit` meets its contract.
 -- Assumes nothing.
-use mathlib.Core.Path.{ap}
 use borrow.Author.Needs.{needs}
-use Rattle.machine.specs.State.{laid}
 use Rattle.machine.specs.Step.{commit}
-use Rattle.machine.specs.declared.State.{State}
-use Rattle.machine.proofs.Laid.{enter-event, enter-memory, enter-state, noted-laid}
+use Rattle.machine.proofs.Answers.{entry}
 use Rattle.machine.proofs.State.commit.Statement.{statement}
 use Rattle.machine.proofs.State.commit.Tie as tie
 
@@ -53,28 +50,34 @@ same-length c = search needs
 
 returns : tie.Need-returns
 unfolding commit
-returns c = rw (c .before .before .before .before .before .before .plan .given .1, ← c .before .before .before .without .ensures, enter-state (c .before .before .before .before .before .before .before .before .before .args .self) (c .before .before .before .before .before .before .before .before .before .args .regs .now) (c .before .before .before .before .before .before .before .before .before .args .tlb .now) (c .before .before .before .without .result) (c .before .before .before .before .before .before .plan .given .0 .0) (c .before .before .before .before .before .before .before .before .before .args .self .pc) (c .before .before .before .before .before .before .before .before .before .args .mem .now), enter-event (c .before .before .before .before .before .before .before .before .before .args .self) (c .before .before .before .before .before .before .before .before .before .args .regs .now) (c .before .before .before .before .before .before .before .before .before .args .tlb .now) (c .before .before .before .without .result) (c .before .before .before .before .before .before .plan .given .0 .0) (c .before .before .before .before .before .before .before .before .before .args .self .pc) (c .before .before .before .before .before .before .before .before .before .args .mem .now), enter-memory (c .before .before .before .before .before .before .before .before .before .args .self) (c .before .before .before .before .before .before .before .before .before .args .regs .now) (c .before .before .before .before .before .before .before .before .before .args .tlb .now) (c .before .before .before .without .result) (c .before .before .before .before .before .before .plan .given .0 .0) (c .before .before .before .before .before .before .before .before .before .args .self .pc) (c .before .before .before .before .before .before .before .before .before .args .mem .now)) (ap (λ (st : State). laid st (c .before .before .before .before .before .before .before .before .before .args .regs .now) (c .before .before .before .before .before .before .before .before .before .args .tlb .now)) (c .before .before .enter-kernel .ensures .0), c .before .before .enter-kernel .ensures .1)
+returns c =
+    rw (c .before .before .before .before .before .before .plan .given .1, ← c .before .before .before .without .ensures)
+    (entry (c .before .before .enter-kernel .ensures))
 
 same-length-2 : tie.Need-same-length-2
 same-length-2 c = search needs
 
 returns-2 : tie.Need-returns-2
 unfolding commit
-returns-2 c = rw (c .before .before .before .before .before .before .before .plan2 .given .1, noted-laid _ _ (c .before .before .before .before .before .before .before .before .before .before .args .self) (c .before .before .before .before .before .before .before .before .before .before .args .regs .now) (c .before .before .before .before .before .before .before .before .before .before .args .tlb .now), ← c .before .before .before .before .before .note .ensures, ← c .before .before .before .fault-number .ensures, enter-state (c .before .before .before .before .before .note .result) (c .before .before .before .before .before .before .before .before .before .before .args .regs .now) (c .before .before .before .before .before .before .before .before .before .before .args .tlb .now) (c .before .before .before .before .before .before .before .before .before .before .args .self .pending) (c .before .before .before .fault-number .result) (c .before .before .before .before .before .before .before .before .before .before .args .self .pc) (c .before .before .before .before .before .before .before .before .before .before .args .mem .now), enter-event (c .before .before .before .before .before .note .result) (c .before .before .before .before .before .before .before .before .before .before .args .regs .now) (c .before .before .before .before .before .before .before .before .before .before .args .tlb .now) (c .before .before .before .before .before .before .before .before .before .before .args .self .pending) (c .before .before .before .fault-number .result) (c .before .before .before .before .before .before .before .before .before .before .args .self .pc) (c .before .before .before .before .before .before .before .before .before .before .args .mem .now), enter-memory (c .before .before .before .before .before .note .result) (c .before .before .before .before .before .before .before .before .before .before .args .regs .now) (c .before .before .before .before .before .before .before .before .before .before .args .tlb .now) (c .before .before .before .before .before .before .before .before .before .before .args .self .pending) (c .before .before .before .fault-number .result) (c .before .before .before .before .before .before .before .before .before .before .args .self .pc) (c .before .before .before .before .before .before .before .before .before .before .args .mem .now)) (ap (λ (st : State). laid st (c .before .before .before .before .before .before .before .before .before .before .args .regs .now) (c .before .before .before .before .before .before .before .before .before .before .args .tlb .now)) (c .before .before .enter-kernel2 .ensures .0), c .before .before .enter-kernel2 .ensures .1)
+returns-2 c =
+    rw (c .before .before .before .before .before .before .before .plan2 .given .1, ← c .before .before .before .before .before .note .ensures)
+    (rw (← c .before .before .before .fault-number .ensures) (entry (c .before .before .enter-kernel2 .ensures)))
 
 same-length-3 : tie.Need-same-length-3
 same-length-3 c = search needs
 
 returns-3 : tie.Need-returns-3
 unfolding commit
-returns-3 c = rw (c .before .before .before .before .before .plan3 .given .1, enter-state (c .before .before .before .before .before .before .before .before .args .self) (c .before .before .before .before .before .before .before .before .args .regs .now) (c .before .before .before .before .before .before .before .before .args .tlb .now) (c .before .before .before .before .before .before .before .before .args .self .pending) (c .before .before .before .before .before .plan3 .given .0 .0) (c .before .before .before .before .before .plan3 .given .0 .1 .0) (c .before .before .before .before .before .before .before .before .args .mem .now), enter-event (c .before .before .before .before .before .before .before .before .args .self) (c .before .before .before .before .before .before .before .before .args .regs .now) (c .before .before .before .before .before .before .before .before .args .tlb .now) (c .before .before .before .before .before .before .before .before .args .self .pending) (c .before .before .before .before .before .plan3 .given .0 .0) (c .before .before .before .before .before .plan3 .given .0 .1 .0) (c .before .before .before .before .before .before .before .before .args .mem .now), enter-memory (c .before .before .before .before .before .before .before .before .args .self) (c .before .before .before .before .before .before .before .before .args .regs .now) (c .before .before .before .before .before .before .before .before .args .tlb .now) (c .before .before .before .before .before .before .before .before .args .self .pending) (c .before .before .before .before .before .plan3 .given .0 .0) (c .before .before .before .before .before .plan3 .given .0 .1 .0) (c .before .before .before .before .before .before .before .before .args .mem .now)) (ap (λ (st : State). laid st (c .before .before .before .before .before .before .before .before .args .regs .now) (c .before .before .before .before .before .before .before .before .args .tlb .now)) (c .before .before .enter-kernel3 .ensures .0), c .before .before .enter-kernel3 .ensures .1)
+returns-3 c = rw (c .before .before .before .before .before .plan3 .given .1) (entry (c .before .before .enter-kernel3 .ensures))
 
 same-length-4 : tie.Need-same-length-4
 same-length-4 c = search needs
 
 returns-4 : tie.Need-returns-4
 unfolding commit
-returns-4 c = rw (c .before .before .before .before .before .before .before .before .before .plan4 .given .1) (c .before .perform .ensures, (c .event-of .ensures, c .before .before .before .before .before .before .make-store .ensures))
+returns-4 c =
+    rw (c .before .before .before .before .before .before .before .plan4 .given .1)
+    (rw (c .before .perform .ensures, c .event-of .ensures), c .before .before .before .before .make-store .ensures)
 
 pub commit-spec : {M : Type 1} → statement M
 commit-spec =

@@ -14,8 +14,8 @@ returns : tie.Need-returns
 unfolding enterOf
 returns c = rw (eq-eqb _ _ (c .before .if1 .taken)) (c .set-condition .ensures, (refl, refl))
 
-flag-requires : tie.Need-flag-requires
-flag-requires c κs = search needs
+word-requires : tie.Need-word-requires
+word-requires c κs = search needs
 
 push-both-requires : tie.Need-push-both-requires
 push-both-requires c κs = search needs
@@ -29,6 +29,9 @@ plus-requires c κs = search needs
 word-at-requires : tie.Need-word-at-requires
 word-at-requires c κs = search needs
 
+set-pending-requires : tie.Need-set-pending-requires
+set-pending-requires c κs = search needs
+
 in-kernel-requires : tie.Need-in-kernel-requires
 in-kernel-requires c κs = search needs
 
@@ -37,7 +40,11 @@ same-length c = search needs
 
 returns-2 : tie.Need-returns-2
 unfolding enterOf
-returns-2 c = rw (ne-eqb _ _ (c .before .before .before .before .before .before .before .before .before .if1 .left), ← c .before .before .before .before .before .before .before .before .flag .ensures, ← c .before .before .before .before .before .before .push-both .ensures, ← c .before .before .plus .ensures, ← c .before .word-at .ensures) (c .in-kernel .ensures, (refl, refl))
+returns-2 c =
+    let pushed = c .before .before .before .before .before .before .before in
+    rw (ne-eqb _ _ (pushed .before .before .before .before .if1 .left), ← pushed .before .before .word .ensures, ← pushed .push-both .ensures)
+    (rw (← c .before .before .before .plus .ensures, ← c .before .before .word-at .ensures)
+    (rw (c .in-kernel .ensures, c .before .set-pending .ensures), (refl, refl)))
 
 pub enter-kernel-spec : {M : Type 1} → statement M
 enter-kernel-spec =
@@ -45,11 +52,12 @@ enter-kernel-spec =
     (tie.spec
     set-condition-requires
     returns
-    flag-requires
+    word-requires
     push-both-requires
     mul-plus
     plus-requires
     word-at-requires
+    set-pending-requires
     in-kernel-requires
     same-length
     returns-2)

@@ -6,7 +6,7 @@ use mir.Syntax.{w16}
 use mir.Val.{ofZ, toZ}
 use borrow.Author.Needs.{needs}
 use Rattle.word.specs.Signed.{word}
-use Rattle.machine.specs.Plan.{loadNeed}
+use Rattle.machine.specs.Need.{loadNeed}
 use Rattle.machine.specs.declared.Need.the-variants.{Value}
 use Rattle.machine.proofs.State.load_need.Statement.{statement}
 use Rattle.machine.proofs.State.load_need.Tie as tie
@@ -67,7 +67,8 @@ returns-5 c = rw (c .before .before .operand2 .given .1, c .register .ensures)
 returns-6 : tie.Need-returns-6
 unfolding loadNeed
 returns-6 c =
-    let held : toZ w16 (ofZ w16 (c .before .before .operand3 .given .0 .0)) ≡ c .before .before .operand3 .given .0 .0 = search needs in
+    let d = c .before .before .operand3 .given .0 .0 in
+    let held : toZ w16 (ofZ w16 d) ≡ d = search needs in
     rw (c .before .before .operand3 .given .1, c .to-word .ensures) (ap (λ (z : ℤ). Value (word z)) held)
 
 returns-7 : tie.Need-returns-7

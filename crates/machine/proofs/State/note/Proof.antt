@@ -4,27 +4,11 @@ use borrow.Author.Needs.{needs}
 use Rattle.machine.proofs.State.note.Statement.{statement}
 use Rattle.machine.proofs.State.note.Tie as tie
 
-enum-told : tie.Need-enum-told
-enum-told c = search needs
-
-enum-told-2 : tie.Need-enum-told-2
-enum-told-2 c = search needs
-
-cast-self : tie.Need-cast-self
-cast-self c = search needs
-
-enum-told-3 : tie.Need-enum-told-3
-enum-told-3 c = search needs
+noted-requires : tie.Need-noted-requires
+noted-requires c κs = search needs
 
 returns : tie.Need-returns
-returns c = rw (c .before .enum-told .given .1)
-
-returns-2 : tie.Need-returns-2
-returns-2 c = rw (c .enum-told2 .given .1)
-
-returns-3 : tie.Need-returns-3
-returns-3 c = rw (c .before .enum-told3 .given .1)
+returns c = rw (c .noted .ensures)
 
 pub note-spec : {M : Type 1} → statement M
-note-spec =
-    tie.close (tie.spec enum-told enum-told-2 cast-self enum-told-3 returns returns-2 returns-3)
+note-spec = tie.close (tie.spec noted-requires returns)

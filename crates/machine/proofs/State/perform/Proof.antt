@@ -1,6 +1,5 @@
 -- `machine::State::perform` meets its contract.
 -- Assumes nothing.
-use mathlib.Core.Path.{_∙_}
 use borrow.Author.Needs.{needs}
 use Rattle.machine.specs.Execute.{afterOperation}
 use Rattle.machine.proofs.State.perform.Statement.{statement}
@@ -14,7 +13,7 @@ body-requires c κs = search needs
 
 returns : tie.Need-returns
 unfolding afterOperation
-returns c = c .body .ensures ∙ rw (c .before .before .before .set-pc .ensures)
+returns c = rw (← c .before .set-pc .ensures) (c .body .ensures)
 
 pub perform-spec : {M : Type 1} → statement M
 perform-spec = tie.close (tie.spec set-pc-requires body-requires returns)

@@ -1,19 +1,18 @@
 -- `machine::State::plan_fetch` meets its contract.
 -- Assumes nothing.
-use mathlib.Core.Path.{refl}
 use borrow.Author.Needs.{needs}
 use Rattle.machine.specs.Plan.{planFetch}
 use Rattle.machine.proofs.State.plan_fetch.Statement.{statement}
 use Rattle.machine.proofs.State.plan_fetch.Tie as tie
 
-translates-requires : tie.Need-translates-requires
-translates-requires c κs = search needs
+fetch-requires : tie.Need-fetch-requires
+fetch-requires c κs = search needs
 
-word-access-requires : tie.Need-word-access-requires
-word-access-requires c κs = search needs
+set-tlb-requires : tie.Need-set-tlb-requires
+set-tlb-requires c κs = search needs
 
-enum-known-at : tie.Need-enum-known-at
-enum-known-at c = search needs
+enum-known-access : tie.Need-enum-known-access
+enum-known-access c = search needs
 
 word-at-requires : tie.Need-word-at-requires
 word-at-requires c κs = search needs
@@ -24,27 +23,31 @@ first-word-requires c κs = search needs
 plan-first-requires : tie.Need-plan-first-requires
 plan-first-requires c κs = search needs
 
-enum-known-fault : tie.Need-enum-known-fault
-enum-known-fault c = search needs
+enum-known-access-2 : tie.Need-enum-known-access-2
+enum-known-access-2 c = search needs
 
 returns : tie.Need-returns
 unfolding planFetch
-returns c = rw (← c .before .before .before .before .before .before .before .before .before .translates .ensures, ← c .before .before .before .before .before .before .before .word-access .ensures .0, c .before .before .before .before .before .at .given .1, ← c .before .before .before .before .before .before .before .word-access .ensures .1, ← c .before .before .before .word-at .ensures, ← c .before .before .first-word .ensures) (c .plan-first .ensures)
+returns c =
+    let granted = c .before .before .before .before in
+    rw (← granted .before .before .before .before .fetch .ensures, ← granted .before .before .set-tlb .ensures, granted .access .given .1)
+    (rw (← c .before .before .word-at .ensures, ← c .before .first-word .ensures) (c .plan-first .ensures))
 
 returns-2 : tie.Need-returns-2
 unfolding planFetch
-returns-2 c = rw (← c .before .before .before .before .before .translates .ensures, ← c .before .before .before .word-access .ensures .0, c .before .fault .given .1, ← c .before .before .before .word-access .ensures .1) (refl, refl)
+returns-2 c =
+    rw (← c .before .before .before .before .before .fetch .ensures, ← c .before .before .before .set-tlb .ensures, c .before .access2 .given .1)
 
 pub plan-fetch-spec : {M : Type 1} → statement M
 plan-fetch-spec =
     tie.close
     (tie.spec
-    translates-requires
-    word-access-requires
-    enum-known-at
+    fetch-requires
+    set-tlb-requires
+    enum-known-access
     word-at-requires
     first-word-requires
     plan-first-requires
-    enum-known-fault
+    enum-known-access-2
     returns
     returns-2)

@@ -1,6 +1,5 @@
 -- `machine::State::plan_first` meets its contract.
 -- Assumes nothing.
-use mathlib.Core.Path.{refl}
 use borrow.Author.Needs.{needs}
 use Rattle.machine.specs.Plan.{planFirst}
 use Rattle.machine.proofs.State.plan_first.Statement.{statement}
@@ -20,15 +19,16 @@ plan-second-requires c κs = search needs
 
 returns : tie.Need-returns
 unfolding planFirst
-returns c = rw (c .enum-told .given .1) (refl, refl)
+returns c =
+    rw (c .before .before .before .before .first .given .1, ← c .before .before .permitted .ensures, c .before .if1 .taken) (c .plan-second .ensures)
 
 returns-2 : tie.Need-returns-2
 unfolding planFirst
-returns-2 c = rw (c .before .before .before .before .before .first .given .1, ← c .before .before .before .permitted .ensures, c .before .before .if1 .taken) (c .plan-second .ensures)
+returns-2 c = rw (c .enum-told .given .1)
 
 returns-3 : tie.Need-returns-3
 unfolding planFirst
-returns-3 c = rw (c .before .before .before .first .given .1, ← c .before .permitted .ensures, c .if1 .left) (refl, refl)
+returns-3 c = rw (c .before .before .before .first .given .1, ← c .before .permitted .ensures, c .if1 .left)
 
 pub plan-first-spec : {M : Type 1} → statement M
 plan-first-spec =

@@ -7,7 +7,7 @@ use Rattle.machine.proofs.State.port_in.Tie as tie
 
 returns : tie.Need-returns
 unfolding causeAfter
-returns c = rw (eq-eqb _ _ (c .if1 .taken))
+returns c = rw (eq-eqb _ _ (c .before .if1 .taken))
 
 returns-2 : tie.Need-returns-2
 unfolding causeAfter

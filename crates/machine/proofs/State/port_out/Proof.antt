@@ -2,20 +2,21 @@
 -- Assumes nothing.
 use native.Mathlib.Nat.{div-one}
 use borrow.Author.Needs.{needs}
-use borrow.Author.Tests.{le-leb, lt-leb, ne-eqb}
+use borrow.Author.Tests.{ne-eqb}
 use Rattle.machine.specs.Ports.{mmuAfter, outputAfter, tlbAfter}
+use Rattle.machine.proofs.PortCases.{tlb-above, tlb-below}
 use Rattle.machine.proofs.State.port_out.Statement.{statement}
 use Rattle.machine.proofs.State.port_out.Tie as tie
 
-cast-self : tie.Need-cast-self
-cast-self c = search needs
+cast-t10 : tie.Need-cast-t10
+cast-t10 c = search needs
 
 write-entry-requires : tie.Need-write-entry-requires
 write-entry-requires c κs = search needs
 
 returns : tie.Need-returns
 unfolding outputAfter mmuAfter tlbAfter
-returns c = rw (c .match .keys1)
+returns c = rw (c .before .match .keys1)
 
 returns-2 : tie.Need-returns-2
 unfolding outputAfter mmuAfter tlbAfter
@@ -27,13 +28,13 @@ returns-3 c = rw (ne-eqb _ _ (c .before .before .before .before .match .rest .0 
 
 returns-4 : tie.Need-returns-4
 unfolding outputAfter mmuAfter tlbAfter
-returns-4 c = rw (ne-eqb _ _ (c .before .match .rest .0 .1), ne-eqb _ _ (c .before .match .rest .1), lt-leb 128 _ (c .if1 .taken))
+returns-4 c = rw (ne-eqb _ _ (c .before .match .rest .0 .1), ne-eqb _ _ (c .before .match .rest .1), tlb-below (c .if1 .taken))
 
 returns-5 : tie.Need-returns-5
 unfolding outputAfter mmuAfter tlbAfter
-returns-5 c = rw (ne-eqb _ _ (c .before .before .match .rest .0 .1), ne-eqb _ _ (c .before .before .match .rest .1), le-leb 128 _ (c .before .if1 .left), lt-leb _ 158 (c .if2 .left))
+returns-5 c = rw (ne-eqb _ _ (c .before .before .match .rest .0 .1), ne-eqb _ _ (c .before .before .match .rest .1), tlb-above (c .if2 .left))
 
 pub port-out-spec : {M : Type 1} → statement M
 port-out-spec =
     tie.close
-    (tie.spec cast-self write-entry-requires returns returns-2 returns-3 returns-4 returns-5)
+    (tie.spec cast-t10 write-entry-requires returns returns-2 returns-3 returns-4 returns-5)

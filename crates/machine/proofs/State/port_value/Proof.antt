@@ -1,8 +1,8 @@
 -- `machine::State::port_value` meets its contract.
 -- Assumes nothing.
 use borrow.Author.Needs.{needs}
-use borrow.Author.Tests.{le-leb, lt-leb, ne-eqb}
 use Rattle.machine.specs.Ports.{portIn, tlbPort}
+use Rattle.machine.proofs.PortCases.{no-register, tlb-above, tlb-below}
 use Rattle.machine.proofs.State.port_value.Statement.{statement}
 use Rattle.machine.proofs.State.port_value.Tie as tie
 
@@ -35,16 +35,15 @@ unfolding portIn
 returns-4 c = rw (c .before .match .keys4)
 
 returns-5 : tie.Need-returns-5
-unfolding portIn
-returns-5 c = rw (ne-eqb _ _ (c .before .before .before .match .rest .0 .0 .0 .1), ne-eqb _ _ (c .before .before .before .match .rest .0 .0 .1), ne-eqb _ _ (c .before .before .before .match .rest .0 .1), ne-eqb _ _ (c .before .before .before .match .rest .1)) (c .read-entry .ensures)
+returns-5 c = rw (no-register (c .before .before .before .before .before .args .self) (c .before .before .before .before .match .rest)) (c .read-entry .ensures)
 
 returns-6 : tie.Need-returns-6
-unfolding portIn tlbPort
-returns-6 c = rw (ne-eqb _ _ (c .before .match .rest .0 .0 .0 .1), ne-eqb _ _ (c .before .match .rest .0 .0 .1), ne-eqb _ _ (c .before .match .rest .0 .1), ne-eqb _ _ (c .before .match .rest .1), lt-leb 128 _ (c .if1 .taken))
+unfolding tlbPort
+returns-6 c = rw (no-register (c .before .before .args .self) (c .before .match .rest), tlb-below (c .if1 .taken))
 
 returns-7 : tie.Need-returns-7
-unfolding portIn tlbPort
-returns-7 c = rw (ne-eqb _ _ (c .before .before .match .rest .0 .0 .0 .1), ne-eqb _ _ (c .before .before .match .rest .0 .0 .1), ne-eqb _ _ (c .before .before .match .rest .0 .1), ne-eqb _ _ (c .before .before .match .rest .1), le-leb 128 _ (c .before .if1 .left), lt-leb _ 158 (c .if2 .left))
+unfolding tlbPort
+returns-7 c = rw (no-register (c .before .before .before .args .self) (c .before .before .match .rest), tlb-above (c .if2 .left))
 
 pub port-value-spec : {M : Type 1} → statement M
 port-value-spec =

@@ -9,8 +9,8 @@ use Rattle.machine.proofs.State.register.Tie as tie
 mul-result : tie.Need-mul-result
 mul-result c = search needs
 
-element-copy-out-result : tie.Need-element-copy-out-result
-element-copy-out-result c = search needs
+array-read-result : tie.Need-array-read-result
+array-read-result c = search needs
 
 returns : tie.Need-returns
 unfolding regIn
@@ -29,4 +29,4 @@ returns-3 c = rw (le-ltb _ _ (c .before .if1 .left), ne-eqb _ _ (c .if2 .left))
 
 pub register-spec : {M : Type 1} → statement M
 register-spec =
-    tie.close (tie.spec mul-result element-copy-out-result returns sp-requires returns-2 returns-3)
+    tie.close (tie.spec mul-result array-read-result returns sp-requires returns-2 returns-3)

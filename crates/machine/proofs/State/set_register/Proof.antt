@@ -15,12 +15,12 @@ below h e = omega arith
 mul-regs : tie.Need-mul-regs
 mul-regs c = search needs
 
-element-write-regs : tie.Need-element-write-regs
-element-write-regs c = search needs
+array-write-regs : tie.Need-array-write-regs
+array-write-regs c = search needs
 
 returns : tie.Need-returns
 unfolding regsAfter sspAfter uspAfter
-returns c = rw (lt-ltb _ _ (c .if1 .taken), ne-eqb _ 13 (below (c .if1 .taken)))
+returns c = rw (lt-ltb _ _ (c .before .if1 .taken), ne-eqb _ 13 (below (c .before .if1 .taken)))
 
 set-sp-requires : tie.Need-set-sp-requires
 set-sp-requires c κs = search needs
@@ -35,4 +35,4 @@ returns-3 c = rw (le-ltb _ _ (c .before .if1 .left), ne-eqb _ _ (c .if2 .left))
 
 pub set-register-spec : {M : Type 1} → statement M
 set-register-spec =
-    tie.close (tie.spec mul-regs element-write-regs returns set-sp-requires returns-2 returns-3)
+    tie.close (tie.spec mul-regs array-write-regs returns set-sp-requires returns-2 returns-3)

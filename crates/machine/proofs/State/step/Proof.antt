@@ -1,25 +1,22 @@
 -- `machine::State::step` meets its contract.
 -- Assumes nothing.
-use mathlib.Core.Path.{_∙_}
 use borrow.Author.Needs.{needs}
+use Rattle.machine.specs.Step.{stepOf}
 use Rattle.machine.proofs.State.step.Statement.{statement}
 use Rattle.machine.proofs.State.step.Tie as tie
 
-entries-requires : tie.Need-entries-requires
-entries-requires c κs = search needs
+plan-requires : tie.Need-plan-requires
+plan-requires c κs = search needs
 
-advance-requires : tie.Need-advance-requires
-advance-requires c κs = search needs
-
-put-back-requires : tie.Need-put-back-requires
-put-back-requires c κs = search needs
+commit-requires : tie.Need-commit-requires
+commit-requires c κs = search needs
 
 same-length : tie.Need-same-length
 same-length c = search needs
 
 returns : tie.Need-returns
-returns c = ((λ i. record { state = (c .put-back .ensures ∙ c .before .before .before .before .advance .ensures .0) i; event = (c .before .before .before .before .advance .ensures .1 .0) i }), c .before .before .before .before .advance .ensures .1 .1)
+unfolding stepOf
+returns c = rw (← c .before .before .before .before .before .plan .ensures) (c .before .before .commit .ensures)
 
 pub step-spec : {M : Type 1} → statement M
-step-spec =
-    tie.close (tie.spec entries-requires advance-requires put-back-requires same-length returns)
+step-spec = tie.close (tie.spec plan-requires commit-requires same-length returns)

@@ -1,7 +1,5 @@
 -- `machine::step::without` meets its contract.
 -- Assumes nothing.
--- `machine::step::without` meets its contract.
--- Assumes nothing.
 use mathlib.Core.Path.{sym, _≡_}
 use Prim.Native.Nat.{ℕ, _%_, _*_, _-_, _<_, _^_, _≤_}
 use native.Mathlib.Nat.{le-of-suc-le-suc, lt-of-le-of-lt, mod-eq-of-lt, one-mul}

@@ -1,0 +1,77 @@
+-- `card::calls::perform` meets its contract.
+-- Assumes nothing.
+use mathlib.Core.Path.{refl}
+use lib.ListN.{length}
+use borrow.Author.Needs.{needs}
+use Rattle.card.specs.Call.{cardCall}
+use Rattle.card.specs.Passed.{Passed, passed, read-whole}
+use Rattle.card.proofs.calls.perform.Statement.{statement}
+use Rattle.card.proofs.calls.perform.Tie as tie
+
+validate-requires : tie.Need-validate-requires
+validate-requires c κs = search needs
+
+enum-known-validity : tie.Need-enum-known-validity
+enum-known-validity c = search needs
+
+answer-of-requires : tie.Need-answer-of-requires
+answer-of-requires c κs = search needs
+
+enum-told : tie.Need-enum-told
+enum-told c = search needs
+
+-- the tests were passed
+good :
+    (c : tie.After-enum-told)
+    → let start = c .before .before .before .before .before .before .before .before .args in
+    Passed (length (start .memory .now)) (start .image .now) (start .card .now) (length (start .report .now))
+good c = passed _ _ _ _ (rw (c .before .before .validate .ensures) at (c .enum-told .given .1))
+
+execute-tested-requires : tie.Need-execute-tested-requires
+execute-tested-requires c κs =
+    let p = good (c .before .before .before) in
+    let r = read-whole _ (p .read) in
+    (p .memory, p .size, r .0, rw (r .1) at (p .room))
+
+same-length : tie.Need-same-length
+same-length c = search needs
+
+returns : tie.Need-returns
+unfolding cardCall
+returns c =
+    rw (rw (c .before .before .before .before .validate .ensures) at (c .before .before .validity .given .1))
+    (c .answer-of .ensures, (refl, (refl, refl)))
+
+same-length-2 : tie.Need-same-length-2
+same-length-2 c = search needs
+
+same-length-3 : tie.Need-same-length-3
+same-length-3 c = search needs
+
+same-length-4 : tie.Need-same-length-4
+same-length-4 c = search needs
+
+returns-2 : tie.Need-returns-2
+unfolding cardCall
+returns-2 c =
+    let executed = c .before .before .before .before .before .before in
+    let told = executed .before .before .before .before in
+    let tested = told .before .before .validate .ensures in
+    let whole = read-whole _ (good told .read) .1 in
+    rw (rw tested at (told .enum-told .given .1), whole) (rw (tested, whole), executed .execute-tested .ensures)
+
+pub perform-spec : {M : Type 1} → statement M
+perform-spec =
+    tie.close
+    (tie.spec
+    validate-requires
+    enum-known-validity
+    answer-of-requires
+    enum-told
+    execute-tested-requires
+    same-length
+    returns
+    same-length-2
+    same-length-3
+    same-length-4
+    returns-2)

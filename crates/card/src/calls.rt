@@ -1,0 +1,75 @@
+// A card's call on lent buffers.
+ghost use mathlib.Core.List.{_++_};
+ghost use mathlib.Core.Path.{_≡_};
+ghost use Prim.Native.Nat.{_*_, _≤_};
+ghost use lib.ListN.{drop, length};
+ghost use Rattle.card.specs.Call as def;
+ghost use Rattle.card.specs.Card.{cardSize, readFrom, runsIn};
+ghost use Rattle.card.specs.Effect.{executeOf};
+ghost use Rattle.image.specs.Decode.{stateFrom};
+ghost use Rattle.image.specs.Image.{imageOf};
+ghost use Rattle.image.specs.Layout.{imageSize};
+ghost use Rattle.report.specs.Layout.{reportSize};
+use crate::effects::execute;
+use crate::tests::validate;
+use refusal::Validity;
+
+// A card on buffers that were tested.
+fn execute_tested(memory: &mut [u8], image: &mut [u8], card: &[u8], report: &mut [u8])
+    requires { ⌜ (length (now memory) ≡ 65536) × (length (now image) ≡ imageSize) × (length (now card) ≤ cardSize) × (reportSize * runsIn ((readFrom (now card) 0) .commands) ≤ length (now report)) ⌝ }
+    ensures memory { λ _. ⌜ now (memory .exit) ≡ (executeOf ((readFrom (now (card .entry)) 0) .commands) (stateFrom (now (image .entry))) (now (memory .entry))) .memory ⌝ }
+    ensures image { λ _. ⌜ now (image .exit) ≡ imageOf ((executeOf ((readFrom (now (card .entry)) 0) .commands) (stateFrom (now (image .entry))) (now (memory .entry))) .state) ⌝ }
+    ensures report { λ _. ⌜ now (report .exit) ≡ (executeOf ((readFrom (now (card .entry)) 0) .commands) (stateFrom (now (image .entry))) (now (memory .entry))) .reports ++ drop (reportSize * runsIn ((readFrom (now (card .entry)) 0) .commands)) (now (report .entry)) ⌝ }
+{
+    let state = image::read_image(image);
+    let last = execute(state, memory, card, report);
+    image::write_image(image, last);
+}
+
+// A card: the answer of `tac_card`, the reports at the front of `report`, the bytes behind them kept.
+pub fn perform(memory: &mut [u8], image: &mut [u8], card: &[u8], report: &mut [u8]) -> u64
+    ensures answer { λ r. ⌜ r ≡ (def.cardCall (now (memory .entry)) (now (image .entry)) (now (card .entry)) (now (report .entry))) .answer ⌝ }
+    ensures memory { λ _. ⌜ now (memory .exit) ≡ (def.cardCall (now (memory .entry)) (now (image .entry)) (now (card .entry)) (now (report .entry))) .memory ⌝ }
+    ensures image { λ _. ⌜ now (image .exit) ≡ (def.cardCall (now (memory .entry)) (now (image .entry)) (now (card .entry)) (now (report .entry))) .image ⌝ }
+    ensures report { λ _. ⌜ now (report .exit) ≡ (def.cardCall (now (memory .entry)) (now (image .entry)) (now (card .entry)) (now (report .entry))) .report ⌝ }
+{
+    let tested = validate(memory.len(), image, card, report.len());
+    let validity = tested.validity;
+    match validity {
+        Validity::Refused(refusal) => refusal::answer_of(refusal),
+        Validity::Good => {
+            execute_tested(memory, image, card, report);
+            tested.needed as u64
+        }
+    }
+}
+
+// The bytes filled, by the answer: none if it is a refusal.
+fn filled_by(answer: u64) -> usize
+    ensures { λ r. ⌜ r ≡ def.filledBy answer ⌝ }
+{
+    if answer < 4294967296 {
+        answer as usize
+    } else {
+        0
+    }
+}
+
+// A card: the filled front part of the report is handed back, empty on a refusal.
+pub fn run_card<'a>(
+    memory: &mut [u8],
+    image: &mut [u8],
+    card: &[u8],
+    report: &'a mut [u8],
+    answer: &mut u64,
+) -> &'a mut [u8]
+    ensures part { λ r. ⌜ now r ≡ def.filledPart (now (memory .entry)) (now (image .entry)) (now (card .entry)) (now (report .entry)) ⌝ }
+    ensures answer { λ _. ⌜ now (answer .exit) ≡ (def.cardCall (now (memory .entry)) (now (image .entry)) (now (card .entry)) (now (report .entry))) .answer ⌝ }
+    ensures memory { λ _. ⌜ now (memory .exit) ≡ (def.cardCall (now (memory .entry)) (now (image .entry)) (now (card .entry)) (now (report .entry))) .memory ⌝ }
+    ensures image { λ _. ⌜ now (image .exit) ≡ (def.cardCall (now (memory .entry)) (now (image .entry)) (now (card .entry)) (now (report .entry))) .image ⌝ }
+{
+    let called = perform(memory, image, card, report);
+    *answer = called;
+    let filled = filled_by(called);
+    &mut report[..filled]
+}

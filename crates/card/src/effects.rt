@@ -1,0 +1,179 @@
+// What a card's commands do.
+ghost use mathlib.Core.List.{_++_};
+ghost use mathlib.Core.Path.{_≡_};
+ghost use Prim.Native.Nat.{_*_, _+_, _≤_};
+ghost use lib.ListN.{drop, length, set, take};
+ghost use Rattle.card.specs.Card.{cardSize, isRun, readFrom, runsIn};
+ghost use Rattle.card.specs.Effect as def;
+ghost use Rattle.decode.specs.Entry.{tableOf};
+ghost use Rattle.report.specs.Layout.{reportSize};
+ghost use Rattle.report.specs.Report.{reportOfRan};
+ghost use Rattle.machine.specs.Run.{runOf};
+ghost use Rattle.machine.specs.State.{withMmu, withTlb};
+use crate::Acted;
+use crate::Command;
+use crate::Parsed;
+use crate::parser::parse;
+use machine::Ports;
+use machine::State;
+use report::REPORT;
+
+// 02: register 13 is SSP whatever P is.
+fn set_register(mut state: State, number: u8, value: u16) -> State
+    ensures { λ r. ⌜ r ≡ def.withRegister state number value ⌝ }
+{
+    match number {
+        13 => state.ssp = value,
+        14 => state.usp = value,
+        0..=12 => {
+            let mut regs = state.regs;
+            regs[number as usize] = value;
+            state.regs = regs;
+        }
+        _ => state.pc = value,
+    }
+    state
+}
+
+// 03: lines that are pending already stay so.
+fn add_lines(mut state: State, lines: u16, byte: u8) -> State
+    ensures { λ r. ⌜ r ≡ def.withLines state lines byte ⌝ }
+{
+    let old = state.ports;
+    let ports = Ports {
+        input: byte,
+        output: old.output,
+    };
+    state.pending = state.pending | lines;
+    state.ports = ports;
+    state
+}
+
+// 05.
+fn set_entry(mut state: State, number: u8, bits: u32) -> State
+    ensures { λ r. ⌜ r ≡ withTlb state (set (state .tlb) number bits) ⌝ }
+{
+    if 8 <= number {
+        return state;
+    }
+    let mut tlb = state.tlb;
+    tlb[number as usize] = bits;
+    state.tlb = tlb;
+    state
+}
+
+// 06.
+fn set_mmu(mut state: State, on: bool) -> State
+    ensures { λ r. ⌜ r ≡ withMmu state on ⌝ }
+{
+    state.mmu = on;
+    state
+}
+
+// 01.
+fn set_byte(memory: &mut [u8], address: u16, value: u8)
+    requires { ⌜ length (now memory) ≡ 65536 ⌝ }
+    ensures { λ _. ⌜ now (memory .exit) ≡ set (now (memory .entry)) address value ⌝ }
+{
+    memory[address as usize] = value;
+}
+
+// 04: a run, its report at `filled`.
+fn run_reported(
+    state: State,
+    memory: &mut [u8],
+    allowance: u16,
+    report: &mut [u8],
+    filled: usize,
+    table: &[u32; 256],
+) -> State
+    requires { ⌜ (length (now memory) ≡ 65536) × (filled + reportSize ≤ length (now report)) × (now table ≡ tableOf) ⌝ }
+    ensures state { λ r. ⌜ r ≡ (runOf allowance state (now (memory .entry))) .state ⌝ }
+    ensures memory { λ _. ⌜ now (memory .exit) ≡ (runOf allowance state (now (memory .entry))) .memory ⌝ }
+    ensures report { λ _. ⌜ now (report .exit) ≡ take filled (now (report .entry)) ++ (reportOfRan (runOf allowance state (now (memory .entry))) ++ drop (filled + reportSize) (now (report .entry))) ⌝ }
+{
+    let finished = runner::run(state, memory, allowance, table);
+    let last = finished.state;
+    let ending = finished.ending;
+    let flags = last.flags;
+    report::write_report(
+        &mut report[filled..],
+        ending,
+        last.pc,
+        flags.word(),
+        finished.steps,
+        finished.states,
+    );
+    last
+}
+
+// What a command does, its report at `filled`.
+fn act(
+    command: Command,
+    state: State,
+    memory: &mut [u8],
+    report: &mut [u8],
+    filled: usize,
+    table: &[u32; 256],
+) -> Acted
+    requires { ⌜ (length (now memory) ≡ 65536) × (filled + reportSize * isRun command ≤ length (now report)) × (now table ≡ tableOf) ⌝ }
+    ensures answer { λ r. ⌜ r ≡ record { state = (def.effectOf command state (now (memory .entry))) .state; filled = filled + reportSize * isRun command } ⌝ }
+    ensures memory { λ _. ⌜ now (memory .exit) ≡ (def.effectOf command state (now (memory .entry))) .memory ⌝ }
+    ensures report { λ _. ⌜ now (report .exit) ≡ take filled (now (report .entry)) ++ ((def.effectOf command state (now (memory .entry))) .reports ++ drop (filled + reportSize * isRun command) (now (report .entry))) ⌝ }
+{
+    match command {
+        Command::Byte(address, value) => {
+            set_byte(memory, address, value);
+            Acted { state, filled }
+        }
+        Command::Register(number, value) => Acted {
+            state: set_register(state, number, value),
+            filled,
+        },
+        Command::Lines(lines, byte) => Acted {
+            state: add_lines(state, lines, byte),
+            filled,
+        },
+        Command::Run(allowance) => Acted {
+            state: run_reported(state, memory, allowance, report, filled, table),
+            filled: filled + REPORT,
+        },
+        Command::Entry(number, bits) => Acted {
+            state: set_entry(state, number, bits),
+            filled,
+        },
+        Command::Mmu(on) => Acted {
+            state: set_mmu(state, on),
+            filled,
+        },
+        Command::Flag(flag) => Acted {
+            state: state.load_flag(flag),
+            filled,
+        },
+    }
+}
+
+// The commands of a card, one after the other, to its end or to a bad one.
+pub fn execute(first: State, memory: &mut [u8], card: &[u8], report: &mut [u8]) -> State
+    requires { ⌜ (length (now memory) ≡ 65536) × (length (now card) ≤ cardSize) × (reportSize * runsIn ((readFrom (now card) 0) .commands) ≤ length (now report)) ⌝ }
+    ensures state { λ r. ⌜ r ≡ (def.executeOf ((readFrom (now (card .entry)) 0) .commands) first (now (memory .entry))) .state ⌝ }
+    ensures memory { λ _. ⌜ now (memory .exit) ≡ (def.executeOf ((readFrom (now (card .entry)) 0) .commands) first (now (memory .entry))) .memory ⌝ }
+    ensures report { λ _. ⌜ now (report .exit) ≡ (def.executeOf ((readFrom (now (card .entry)) 0) .commands) first (now (memory .entry))) .reports ++ drop (reportSize * runsIn ((readFrom (now (card .entry)) 0) .commands)) (now (report .entry)) ⌝ }
+{
+    let table = decode::entries();
+    let mut at = 0;
+    let mut filled = 0;
+    let mut state = first;
+    loop {
+        match parse(&card[at..], at) {
+            Parsed::End => return state,
+            Parsed::Bad(_) => return state,
+            Parsed::Next(command, next) => {
+                let acted = act(command, state, memory, report, filled, &table);
+                state = acted.state;
+                filled = acted.filled;
+                at = next;
+            }
+        }
+    }
+}

@@ -1,0 +1,39 @@
+-- `decode::opcode::access_from` meets its contract.
+-- Assumes nothing.
+use borrow.Author.Tests.{ne-eqb}
+use Rattle.decode.specs.Numbers.{accessFrom}
+use Rattle.decode.proofs.opcode.access_from.Statement.{statement}
+use Rattle.decode.proofs.opcode.access_from.Tie as tie
+
+returns : tie.Need-returns
+unfolding accessFrom
+returns c = rw (c .match .keys1)
+
+returns-2 : tie.Need-returns-2
+unfolding accessFrom
+returns-2 c = rw (c .match .keys2)
+
+returns-3 : tie.Need-returns-3
+unfolding accessFrom
+returns-3 c = rw (c .match .keys3)
+
+returns-4 : tie.Need-returns-4
+unfolding accessFrom
+returns-4 c = rw (c .match .keys4)
+
+returns-5 : tie.Need-returns-5
+unfolding accessFrom
+returns-5 c = rw (c .match .keys5)
+
+returns-6 : tie.Need-returns-6
+unfolding accessFrom
+returns-6 c = rw (c .match .keys6)
+
+returns-7 : tie.Need-returns-7
+unfolding accessFrom
+returns-7 c =
+    let rest = c .match .rest in
+    rw (ne-eqb _ _ (rest .0 .0 .0 .0 .0 .1), ne-eqb _ _ (rest .0 .0 .0 .0 .1), ne-eqb _ _ (rest .0 .0 .0 .1), ne-eqb _ _ (rest .0 .0 .1), ne-eqb _ _ (rest .0 .1), ne-eqb _ _ (rest .1))
+
+pub access-from-spec : {M : Type 1} → statement M
+access-from-spec = tie.close (tie.spec returns returns-2 returns-3 returns-4 returns-5 returns-6 returns-7)

@@ -1,0 +1,88 @@
+-- `decode::opcode::first_word` meets its contract: by the table's rule at the word's upper byte.
+-- Assumes nothing.
+use mathlib.Core.Path.{sym, _∙_, _≡_}
+use Prim.Native.Nat.{ℕ}
+use lib.ListN.{getD}
+use borrow.Author.Needs.{needs}
+use borrow.Author.Tests.{eq-eqb, ne-eqb}
+use Rattle.word.specs.Word.{upper}
+use Rattle.decode.specs.Decode.{firstOf}
+use Rattle.decode.proofs.Fields.{entry-bad, entry-good, first-by-entry, firstEntry}
+use Rattle.decode.proofs.opcode.first_word.Statement.{statement}
+use Rattle.decode.proofs.opcode.first_word.Tie as tie
+
+abbrev word : tie.Start → ℕ
+word c = c .args .word
+
+abbrev entry : tie.Start → ℕ
+entry c = getD (c .args .table .now) (upper (word c)) 0
+
+by-entry : (c : tie.Start) → firstOf (word c) ≡ firstEntry (entry c) (word c)
+by-entry c = first-by-entry _ _ (c .pre) (c .fits .word .fits)
+
+cast-byte : tie.Need-cast-byte
+cast-byte c = search needs
+
+mul-entry : tie.Need-mul-entry
+mul-entry c = search needs
+
+element-copy-out-entry : tie.Need-element-copy-out-entry
+element-copy-out-entry c = search needs
+
+returns : tie.Need-returns
+returns c = sym (by-entry (c .before .before) ∙ rw (eq-eqb _ _ (c .if1 .taken)))
+
+returns-2 : tie.Need-returns-2
+returns-2 c =
+    let s = c .before .before .before in
+    sym (by-entry s ∙ entry-bad (entry s) (word s) (ne-eqb _ _ (c .before .if1 .left)) (c .if2 .taken))
+
+cast-t18 : tie.Need-cast-t18
+cast-t18 c = search needs
+
+cast-t20 : tie.Need-cast-t20
+cast-t20 c = search needs
+
+cast-t21 : tie.Need-cast-t21
+cast-t21 c = search needs
+
+cast-t22 : tie.Need-cast-t22
+cast-t22 c = search needs
+
+cast-t27 : tie.Need-cast-t27
+cast-t27 c = search needs
+
+privilege-from-requires : tie.Need-privilege-from-requires
+privilege-from-requires c κs = search needs
+
+access-from-requires : tie.Need-access-from-requires
+access-from-requires c κs = search needs
+
+flow-from-requires : tie.Need-flow-from-requires
+flow-from-requires c κs = search needs
+
+returns-3 : tie.Need-returns-3
+returns-3 c =
+    let d = c .before .before .before in
+    let s = d .before .before .before in
+    rw (c .before .before .privilege-from .ensures, c .before .access-from .ensures, c .flow-from .ensures)
+    (sym (by-entry s ∙ entry-good (entry s) (word s) (ne-eqb _ _ (d .before .if1 .left)) (d .if2 .left)))
+
+pub first-word-spec : {M : Type 1} → statement M
+first-word-spec =
+    tie.close
+    (tie.spec
+    cast-byte
+    mul-entry
+    element-copy-out-entry
+    returns
+    returns-2
+    cast-t18
+    cast-t20
+    cast-t21
+    cast-t22
+    cast-t27
+    privilege-from-requires
+    access-from-requires
+    flow-from-requires
+    returns-3)

@@ -1,0 +1,80 @@
+// The first word of an instruction, by its entry in the decoding table.
+ghost use mathlib.Core.Path.{_≡_};
+ghost use Rattle.decode.specs.Decode as def;
+ghost use Rattle.decode.specs.Entry.{tableOf};
+ghost use Rattle.decode.specs.Numbers.{accessFrom, flowFrom, privilegeFrom};
+use crate::DataAccess;
+use crate::First;
+use crate::Flow;
+use crate::Privilege;
+use crate::Shape;
+
+fn privilege_from(n: u32) -> Privilege
+    ensures { λ r. ⌜ r ≡ privilegeFrom n ⌝ }
+{
+    match n {
+        0 => Privilege::Anyone,
+        1 => Privilege::Ports,
+        _ => Privilege::Kernel,
+    }
+}
+
+fn access_from(n: u32) -> DataAccess
+    ensures { λ r. ⌜ r ≡ accessFrom n ⌝ }
+{
+    match n {
+        0 => DataAccess::None,
+        1 => DataAccess::Flag,
+        2 => DataAccess::Source,
+        3 => DataAccess::Destination,
+        4 => DataAccess::Push,
+        5 => DataAccess::Pop,
+        _ => DataAccess::PopTwo,
+    }
+}
+
+fn flow_from(n: u32) -> Flow
+    ensures { λ r. ⌜ r ≡ flowFrom n ⌝ }
+{
+    match n {
+        0 => Flow::Next,
+        1 => Flow::Jump,
+        2 => Flow::Call,
+        3 => Flow::Return,
+        4 => Flow::Resume,
+        5 => Flow::Trap,
+        6 => Flow::Divide,
+        _ => Flow::Shift,
+    }
+}
+
+// The first word of an instruction.
+pub fn first_word(table: &[u32; 256], word: u16) -> First
+    requires { ⌜ now table ≡ tableOf ⌝ }
+    ensures { λ r. ⌜ r ≡ def.firstOf word ⌝ }
+{
+    let byte = (word / 256) as usize;
+    let entry = table[byte];
+    if entry / 0x800 % 2 == 0 {
+        return First::Undefined;
+    }
+    let rd = word / 16 % 16;
+    let rx = word % 16;
+    let bad_rd = (rd == 15) & (entry / 0x80000 % 4 == 1);
+    let bad_condition = (rd == 13) & (entry / 0x80000 % 4 == 2);
+    let bad_rx = (rx == 15) & (entry / 0x200 % 2 == 1);
+    if bad_rd | bad_condition | bad_rx {
+        return First::Undefined;
+    }
+    First::Defined(Shape {
+        code: (entry % 32) as u8,
+        mode: (entry / 0x20 % 16) as u8,
+        rd: rd as u8,
+        rx: rx as u8,
+        second: entry / 0x400 % 2 == 1,
+        cost: (entry / 0x1000 % 128) as u8,
+        privilege: privilege_from(entry / 0x200000 % 4),
+        access: access_from(entry / 0x800000 % 8),
+        flow: flow_from(entry / 0x4000000 % 8),
+    })
+}

@@ -1,0 +1,50 @@
+-- The layout of a state image. Document 01, "Registers and state image": "Its state image is 68 bytes, upper byte first: 13 words G0-G11 and
+-- FP, SSP, USP, PC, FLAG, pending lines (word ...), input byte, output byte, MMU on (0/1), condition ..., violation address (word), cause
+-- (0-3), missed page, eight TLB entries of 3 bytes."
+-- Assumes nothing.
+use Prim.Native.Nat.{ℕ}
+
+abbrev pub regsAt : ℕ
+regsAt = 0
+
+abbrev pub sspAt : ℕ
+sspAt = 26
+
+abbrev pub uspAt : ℕ
+uspAt = 28
+
+abbrev pub pcAt : ℕ
+pcAt = 30
+
+abbrev pub flagAt : ℕ
+flagAt = 32
+
+abbrev pub pendingAt : ℕ
+pendingAt = 34
+
+abbrev pub inputAt : ℕ
+inputAt = 36
+
+abbrev pub outputAt : ℕ
+outputAt = 37
+
+abbrev pub mmuAt : ℕ
+mmuAt = 38
+
+abbrev pub conditionAt : ℕ
+conditionAt = 39
+
+abbrev pub violationAt : ℕ
+violationAt = 40
+
+abbrev pub causeAt : ℕ
+causeAt = 42
+
+abbrev pub missedAt : ℕ
+missedAt = 43
+
+abbrev pub tlbAt : ℕ
+tlbAt = 44
+
+abbrev pub imageSize : ℕ
+imageSize = 68

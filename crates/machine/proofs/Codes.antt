@@ -1,0 +1,45 @@
+-- Instructions by their numbers: what is left where a match has gone past each number that it names.
+-- Assumes nothing.
+use mathlib.Core.Bool.{cond, _&&_}
+use mathlib.Core.List.{List, [], _∷_}
+use mathlib.Core.Path.{_≡_}
+use Prim.Native.Nat.{ℕ}
+use lib.Dec.{leb}
+use borrow.Author.Tests.{ne-eqb}
+use Rattle.decode.specs.Code.{ADD, ADDS, AND, CALL, CMP, DIV, HALT, IN, LD, LDFLAG, MOD, MUL, OR, OUT, POP, PUSH, RET, RETI, SHRA, SHRL, SUB, XOR}
+use Rattle.word.specs.Alu.{shlOf}
+use Rattle.word.specs.declared.alu.Alu.{Alu}
+use Rattle.machine.specs.Execute.{aluOf, bodyOf, withResult}
+use Rattle.machine.specs.Register.{withReg}
+use Rattle.machine.specs.declared.Operation.{Operation}
+use Rattle.machine.specs.declared.State.{State}
+
+-- a number that is none of some others, the last of them first
+abbrev Beside : List ℕ → ℕ → Type 0
+Beside [] n = Unit {0}
+Beside (k ∷ ks) n = Beside ks n × (n ≡ k → ⊥)
+
+-- the instructions that have a row of their own in what an instruction does to the state
+abbrev singles : List ℕ
+singles = HALT ∷ RETI ∷ RET ∷ POP ∷ PUSH ∷ OUT ∷ IN ∷ CALL ∷ LDFLAG ∷ CMP ∷ LD ∷ []
+
+-- any other computes a result, or does nothing
+pub body-beside :
+    (st : State) (op : Operation) → Beside singles (op .code)
+    → let r : Alu = aluOf (op .code) (op .held) (op .source) in
+    bodyOf st op ≡ cond (leb ADD (op .code) && leb (op .code) SHRL) (withReg (withResult st r) (op .rd) (r .value)) st
+unfolding bodyOf
+body-beside st op (((((((((((_, ld), cmp), flag), call), in′), out), push), pop), ret), reti), halt) =
+    rw (ne-eqb _ _ ld, ne-eqb _ _ cmp, ne-eqb _ _ flag, ne-eqb _ _ call, ne-eqb _ _ in′, ne-eqb _ _ out)
+    (rw (ne-eqb _ _ push, ne-eqb _ _ pop, ne-eqb _ _ ret, ne-eqb _ _ reti, ne-eqb _ _ halt))
+
+-- the instructions that have a row of their own in the results
+abbrev results : List ℕ
+results = SHRL ∷ SHRA ∷ MOD ∷ DIV ∷ MUL ∷ ADDS ∷ XOR ∷ OR ∷ AND ∷ SUB ∷ ADD ∷ []
+
+-- any other is SHLA or SHLL
+pub result-beside : (code a b : ℕ) → Beside results code → aluOf code a b ≡ shlOf a b
+unfolding aluOf
+result-beside code a b (((((((((((_, add), sub), and), or), xor), adds), mul), div), modulo), shra), shrl) =
+    rw (ne-eqb _ _ add, ne-eqb _ _ sub, ne-eqb _ _ and, ne-eqb _ _ or, ne-eqb _ _ xor, ne-eqb _ _ adds)
+    (rw (ne-eqb _ _ mul, ne-eqb _ _ div, ne-eqb _ _ modulo, ne-eqb _ _ shra, ne-eqb _ _ shrl))

@@ -1,0 +1,113 @@
+// What an instruction does to the state.
+ghost use mathlib.Core.Path.{_≡_};
+ghost use Rattle.machine.specs.Execute as def;
+ghost use Rattle.machine.specs.Flag.{withFlag};
+ghost use Rattle.machine.specs.State.{withCondition, withStack};
+ghost use Rattle.word.specs.Word as words;
+use crate::Condition;
+use crate::Event;
+use crate::Operation;
+use crate::State;
+use decode::code::*;
+use word::Alu;
+use word::minus;
+use word::plus;
+
+// The result and the flags of an instruction from ADD to SHRL but CMP.
+fn alu(code: u8, a: u16, b: u16) -> Alu
+    ensures { λ r. ⌜ r ≡ def.aluOf code a b ⌝ }
+{
+    match code {
+        ADD => word::add(a, b),
+        SUB => word::sub(a, b),
+        AND => word::and(a, b),
+        OR => word::or(a, b),
+        XOR => word::xor(a, b),
+        ADDS => word::adds(a, b),
+        MUL => word::mul(a, b),
+        DIV => word::div(a, b),
+        MOD => word::modulo(a, b),
+        SHRA => word::shra(a, b),
+        SHRL => word::shrl(a, b),
+        _ => word::shl(a, b),
+    }
+}
+
+// What an instruction did.
+pub fn event_of(op: Operation) -> Event
+    ensures { λ r. ⌜ r ≡ def.eventOf op ⌝ }
+{
+    if op.code == HALT {
+        return Event::Halted;
+    }
+    Event::Executed(op.states)
+}
+
+impl State {
+    pub fn set_condition(self, condition: Condition) -> State
+        ensures { λ r. ⌜ r ≡ withCondition self condition ⌝ }
+    {
+        let regs = self.regs;
+        let flags = self.flags;
+        let ports = self.ports;
+        let fault = self.fault;
+        let tlb = self.tlb;
+        State {
+            regs,
+            ssp: self.ssp,
+            usp: self.usp,
+            pc: self.pc,
+            flags,
+            pending: self.pending,
+            ports,
+            mmu: self.mmu,
+            condition,
+            fault,
+            tlb,
+        }
+    }
+
+    // RETI: FLAG from a word, and SSP raised.
+    fn resume(mut self, w: u16) -> State
+        ensures { λ r. ⌜ r ≡ withFlag (withStack self (words.plus (self .ssp) 4) (self .usp)) w ⌝ }
+    {
+        self.ssp = plus(self.ssp, 4);
+        self.load_flag(w)
+    }
+
+    // The state after an instruction but for PC.
+    fn body(self, op: Operation) -> State
+        ensures { λ r. ⌜ r ≡ def.bodyOf self op ⌝ }
+    {
+        let code = op.code;
+        match code {
+            LD => self.set_register(op.rd, op.source),
+            CMP => self.set_flags(word::sub(op.held, op.source)),
+            LDFLAG => self.set_register(op.rd, op.source),
+            CALL => self.set_sp(minus(self.sp(), 2)),
+            IN => {
+                let value = self.port_value(op.port);
+                self.port_in(op.port).set_register(op.rd, value)
+            }
+            OUT => self.port_out(op.port, op.held),
+            PUSH => self.set_sp(minus(self.sp(), 2)),
+            POP => self.set_sp(plus(self.sp(), 2))
+                .set_register(op.rd, op.source),
+            RET => self.set_sp(plus(self.sp(), 2)),
+            RETI => self.resume(op.source),
+            HALT => self.set_condition(Condition::Halted),
+            ADD..=SHRL => {
+                let r = alu(code, op.held, op.source);
+                self.set_flags(r).set_register(op.rd, r.value)
+            }
+            _ => self,
+        }
+    }
+
+    // The state after an instruction.
+    pub fn perform(self, op: Operation) -> State
+        ensures { λ r. ⌜ r ≡ def.afterOperation self op ⌝ }
+    {
+        self.set_pc(op.pc).body(op)
+    }
+}

@@ -1,0 +1,92 @@
+// Operands: the address that one names, and the data access that an instruction needs.
+ghost use mathlib.Core.Path.{_≡_};
+ghost use Rattle.machine.specs.Flag.{flagOf};
+ghost use Rattle.machine.specs.Need as def;
+ghost use Rattle.machine.specs.Register.{regOf, spOf};
+use crate::Need;
+use crate::State;
+use crate::register::FP;
+use decode::DataAccess;
+use decode::Operand;
+use decode::code::CALL;
+use word::minus;
+use word::plus;
+use word::to_word;
+
+// The place of ST.
+fn store_need(a: u16, operand: Operand) -> Need
+    ensures { λ r. ⌜ r ≡ def.storeNeed a operand ⌝ }
+{
+    match operand {
+        Operand::Direct(_) => Need::WriteWord(a),
+        Operand::Indexed(_, _) => Need::WriteWord(a),
+        Operand::Immediate(_) => Need::WriteWord(a),
+        Operand::Frame(_) => Need::WriteWord(a),
+        Operand::Register(_) => Need::WriteWord(a),
+        Operand::Short(_) => Need::WriteWord(a),
+        Operand::Indirect(_) => Need::WriteWord(a),
+        Operand::ByteIndirect(_) => Need::WriteByte(a),
+        Operand::Nothing => Need::WriteWord(a),
+    }
+}
+
+// What an instruction stores.
+pub fn value_stored(code: u8, held: u16, following: u16) -> u16
+    ensures { λ r. ⌜ r ≡ def.valueStored code held following ⌝ }
+{
+    if code == CALL { following } else { held }
+}
+
+impl State {
+    // The address that an operand names.
+    pub fn address(self, operand: Operand) -> u16
+        ensures { λ r. ⌜ r ≡ def.addressOf (regOf self) operand ⌝ }
+    {
+        match operand {
+            Operand::Direct(dsp) => dsp,
+            Operand::Indexed(dsp, rx) => plus(dsp, self.register(rx)),
+            Operand::Immediate(_) => 0,
+            Operand::Frame(d) => plus(self.register(FP), to_word(d)),
+            Operand::Register(_) => 0,
+            Operand::Short(_) => 0,
+            Operand::Indirect(rx) => self.register(rx),
+            Operand::ByteIndirect(rx) => self.register(rx),
+            Operand::Nothing => 0,
+        }
+    }
+
+    // The source of LD and of ADD to SHRL.
+    fn load_need(self, a: u16, operand: Operand) -> Need
+        ensures { λ r. ⌜ r ≡ def.loadNeed (regOf self) a operand ⌝ }
+    {
+        match operand {
+            Operand::Direct(_) => Need::ReadWord(a),
+            Operand::Indexed(_, _) => Need::ReadWord(a),
+            Operand::Immediate(v) => Need::Value(v),
+            Operand::Frame(_) => Need::ReadWord(a),
+            Operand::Register(r) => Need::Value(self.register(r)),
+            Operand::Short(v) => Need::Value(to_word(v)),
+            Operand::Indirect(_) => Need::ReadWord(a),
+            Operand::ByteIndirect(_) => Need::ReadByte(a),
+            Operand::Nothing => Need::Value(0),
+        }
+    }
+
+    // The data access of an instruction, `a` being the operand's address.
+    pub fn need(self, access: DataAccess, a: u16, operand: Operand) -> Need
+        ensures { λ r. ⌜ r ≡ def.needOf access (regOf self) (spOf self) (flagOf self) a operand ⌝ }
+    {
+        match access {
+            DataAccess::None => Need::Value(0),
+            DataAccess::Flag => {
+                let flags = self.flags;
+                Need::Value(flags.word())
+            }
+            DataAccess::Source => self.load_need(a, operand),
+            DataAccess::Destination => store_need(a, operand),
+            DataAccess::Push => Need::WriteWord(minus(self.sp(), 2)),
+            DataAccess::Pop => Need::ReadWord(self.sp()),
+            DataAccess::PopTwo => Need::ReadTwo(self.sp()),
+        }
+    }
+}

@@ -1,0 +1,56 @@
+// Memory and the MMU: bytes and words by physical address, TLB entries, the lookup of a page, an access.
+mod accessing;
+mod entry;
+mod lookups;
+mod memory;
+
+pub use accessing::byte_access;
+pub use accessing::word_access;
+pub use lookups::look_up;
+pub use memory::byte_at;
+pub use memory::make_store;
+pub use memory::store_byte;
+pub use memory::store_word;
+pub use memory::word_at;
+
+// What a right is asked for.
+pub enum Right {
+    Read,
+    Write,
+    Execute,
+}
+
+// Why an access is not granted.
+pub enum Fault {
+    // A word at an odd address.
+    Odd,
+    // No valid entry has the page.
+    Missing,
+    // The entry that serves lacks the right.
+    Refused,
+}
+
+// The TLB's answer for a page: no valid entry has it, or the entry of this number serves.
+pub enum Lookup {
+    Missing,
+    Entry(usize),
+}
+
+// The answer to an access: the physical address, or why there is none.
+pub enum Access {
+    At(u16),
+    Fails(Fault),
+}
+
+// An access, and the TLB with its marks.
+pub struct Accessed {
+    pub access: Access,
+    pub tlb: [u32; 8],
+}
+
+// What an instruction stores: nothing, or a word or a byte at a physical address.
+pub enum Store {
+    Nothing,
+    Word(u16, u16),
+    Byte(u16, u16),
+}

@@ -1,0 +1,3 @@
+pub mod Call
+pub mod Laws
+pub mod Refusal

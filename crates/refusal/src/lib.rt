@@ -1,0 +1,36 @@
+// Refusals: why a call is refused, and what it then answers.
+mod answering;
+
+pub use answering::and_then;
+pub use answering::answer_of;
+pub use answering::report_fits;
+
+// Why a call is refused, in the order of the tests.
+pub enum Cause {
+    // Memory is not 65,536 bytes.
+    MemoryLength,
+    // The image does not have an image's size.
+    ImageLength,
+    // An image field is beyond its values.
+    ImageField,
+    // The card is over 4,096 bytes.
+    CardLength,
+    // The first bad command of a card: an unknown byte, operands cut short, an operand beyond its values.
+    CommandUnknown,
+    CommandShort,
+    CommandBeyond,
+    // The report is too short.
+    ReportLength,
+}
+
+// A cause, and its place: the position of the first bad command, or 0.
+pub struct Refusal {
+    pub cause: Cause,
+    pub place: u16,
+}
+
+// What the tests of a call say.
+pub enum Validity {
+    Good,
+    Refused(Refusal),
+}

@@ -1,0 +1,150 @@
+// Plain instructions from a state of the machine.
+ghost use mathlib.Core.Path.{_≡_};
+ghost use Prim.Native.Nat.{_*_, _≤_};
+ghost use lib.ListN.{length};
+ghost use Rattle.runner.specs.Goes.{Goes, Ready};
+ghost use Rattle.runner.specs.Hot.{hot, hotState};
+ghost use Rattle.runner.specs.Maps.{Mapped};
+use crate::Hot;
+use crate::Part;
+use crate::map::by_tlb;
+use crate::map::identity;
+use crate::quick::quick;
+use machine::Condition;
+use machine::Flags;
+use machine::State;
+
+// The registers by their numbers, SP among them.
+fn spread(state: State) -> [u16; 16]
+    ensures { λ r. ⌜ hot state r (state .pc) (state .flags .v) (state .flags .c) (state .flags .s) (state .flags .z) ≡ state ⌝ }
+{
+    let r = state.regs;
+    let sp = state.sp();
+    [
+        r[0],
+        r[1],
+        r[2],
+        r[3],
+        r[4],
+        r[5],
+        r[6],
+        r[7],
+        r[8],
+        r[9],
+        r[10],
+        r[11],
+        r[12],
+        sp,
+        0,
+        0,
+    ]
+}
+
+// The state put together.
+fn gather(mut base: State, rs: [u16; 16], h: Hot) -> State
+    ensures { λ r. ⌜ r ≡ hotState base rs h ⌝ }
+{
+    let f = base.flags;
+    let flags = Flags {
+        e: f.e,
+        p: f.p,
+        i: f.i,
+        v: h.v,
+        c: h.c,
+        s: h.s,
+        z: h.z,
+    };
+    let regs = [
+        rs[0],
+        rs[1],
+        rs[2],
+        rs[3],
+        rs[4],
+        rs[5],
+        rs[6],
+        rs[7],
+        rs[8],
+        rs[9],
+        rs[10],
+        rs[11],
+        rs[12],
+    ];
+    base.regs = regs;
+    base.pc = h.pc;
+    base.flags = flags;
+    base.set_sp(rs[13])
+}
+
+// The map of the pages.
+fn page_map(state: State) -> [u16; 256]
+    ensures { λ r. ⌜ Mapped state r ⌝ }
+{
+    if state.translates() {
+        let tlb = state.tlb;
+        return by_tlb(tlb);
+    }
+    identity()
+}
+
+// Plain instructions of a running machine with no interrupt due.
+fn stretch(state: State, mem: &mut [u8], allowance: u16) -> Part
+    requires { ⌜ (length (now mem) ≡ 65536) × Ready state ⌝ }
+    ensures goes { λ r. ⌜ Goes state (now (mem .entry)) (r .steps) (r .states) (r .state) (now (mem .exit)) ⌝ }
+    ensures bounds { λ r. ⌜ (r .steps ≤ allowance) × (r .states ≤ 65535 * r .steps) ⌝ }
+{
+    let mut regs = spread(state);
+    let f = state.flags;
+    let first = Hot {
+        pc: state.pc,
+        v: f.v,
+        c: f.c,
+        s: f.s,
+        z: f.z,
+        cost: 0,
+    };
+    let map = page_map(state);
+    let q = quick(first, &mut regs, &map, mem, allowance);
+    let last = q.hot;
+    Part {
+        state: gather(state, regs, last),
+        steps: q.steps,
+        states: q.states,
+    }
+}
+
+// Plain instructions, where there may be any.
+pub fn ahead(state: State, mem: &mut [u8], allowance: u16) -> Part
+    requires { ⌜ length (now mem) ≡ 65536 ⌝ }
+    ensures goes { λ r. ⌜ Goes state (now (mem .entry)) (r .steps) (r .states) (r .state) (now (mem .exit)) ⌝ }
+    ensures bounds { λ r. ⌜ (r .steps ≤ allowance) × (r .states ≤ 65535 * r .steps) ⌝ }
+{
+    if allowance == 0 {
+        return Part {
+            state,
+            steps: 0,
+            states: 0,
+        };
+    }
+    let condition = state.condition;
+    match condition {
+        Condition::Halted => return Part {
+            state,
+            steps: 0,
+            states: 0,
+        },
+        Condition::Lost => return Part {
+            state,
+            steps: 0,
+            states: 0,
+        },
+        Condition::Running => {}
+    }
+    if state.interrupted() {
+        return Part {
+            state,
+            steps: 0,
+            states: 0,
+        };
+    }
+    stretch(state, mem, allowance)
+}

@@ -1,0 +1,87 @@
+// Runs: a step of the machine, then plain instructions, in turn.
+ghost use mathlib.Core.Path.{_≡_};
+ghost use lib.ListN.{length};
+ghost use Rattle.decode.specs.Entry.{tableOf};
+ghost use Rattle.machine.specs.Run as def;
+use crate::ahead::ahead;
+use machine::Condition;
+use machine::Ending;
+use machine::Event;
+use machine::Finished;
+use machine::State;
+use machine::states_of;
+
+// A run of at most `allowance` steps, with the decoding table lent.
+pub fn run(start: State, mem: &mut [u8], allowance: u16, table: &[u32; 256]) -> Finished
+    requires { ⌜ (length (now mem) ≡ 65536) × (now table ≡ tableOf) ⌝ }
+    ensures answer { λ r. ⌜ r ≡ def.finished (def.runOf allowance start (now (mem .entry))) ⌝ }
+    ensures memory { λ r. ⌜ now (mem .exit) ≡ (def.runOf allowance start (now (mem .entry))) .memory ⌝ }
+{
+    let mut state = start;
+    let mut steps: u16 = 0;
+    let mut states: u32 = 0;
+    // What plain instructions may take: nothing before the first step.
+    let mut spare: u16 = 0;
+    loop {
+        let part = ahead(state, mem, spare);
+        steps += part.steps;
+        states += part.states;
+        let at = part.state;
+        let condition = at.condition;
+        match condition {
+            Condition::Halted => return at.finish(steps, states, Ending::Halted),
+            Condition::Lost => return at.finish(steps, states, Ending::Lost),
+            Condition::Running => {}
+        }
+        if steps == allowance {
+            return at.finish(steps, states, Ending::Spent);
+        }
+        let stepped = at.step(mem, table);
+        let event = stepped.event;
+        steps += 1;
+        states += states_of(event) as u32;
+        state = stepped.state;
+        spare = allowance - steps;
+        match event {
+            Event::Entered(number, pc, flag) => {
+                return state.finish(steps, states, Ending::Entered(number, pc, flag));
+            }
+            Event::Executed(_) => {}
+            Event::Halted => {}
+            Event::Lost => {}
+        }
+    }
+}
+
+// A run that goes on through kernel entries, to a halt or a loss.
+pub fn run_through(start: State, mem: &mut [u8], allowance: u16, table: &[u32; 256]) -> Finished
+    requires { ⌜ (length (now mem) ≡ 65536) × (now table ≡ tableOf) ⌝ }
+    ensures answer { λ r. ⌜ r ≡ def.finished (def.throughOf allowance start (now (mem .entry))) ⌝ }
+    ensures memory { λ r. ⌜ now (mem .exit) ≡ (def.throughOf allowance start (now (mem .entry))) .memory ⌝ }
+{
+    let mut state = start;
+    let mut steps: u16 = 0;
+    let mut states: u32 = 0;
+    let mut spare: u16 = 0;
+    loop {
+        let part = ahead(state, mem, spare);
+        steps += part.steps;
+        states += part.states;
+        let at = part.state;
+        let condition = at.condition;
+        match condition {
+            Condition::Halted => return at.finish(steps, states, Ending::Halted),
+            Condition::Lost => return at.finish(steps, states, Ending::Lost),
+            Condition::Running => {}
+        }
+        if steps == allowance {
+            return at.finish(steps, states, Ending::Spent);
+        }
+        let stepped = at.step(mem, table);
+        let event = stepped.event;
+        steps += 1;
+        states += states_of(event) as u32;
+        state = stepped.state;
+        spare = allowance - steps;
+    }
+}

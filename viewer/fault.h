@@ -1,0 +1,15 @@
+/* Faults in words. */
+#ifndef VIEWER_FAULT_H
+#define VIEWER_FAULT_H
+
+#include "machine.h"
+
+#include <stddef.h>
+
+#define WORDS_BYTES 160
+
+/* What a number entered says, as "11: no write right at 1210h, entry 0", by the record as it stands. For 11 there is a cause. The text has
+ * WORDS_BYTES. */
+void entry_words(const struct machine *machine, unsigned number, char *text, size_t room);
+
+#endif

@@ -1,0 +1,116 @@
+#include "session.h"
+
+#include "fault.h"
+#include "show.h"
+
+#include <stdio.h>
+
+/* Behind a command or a step of the card: the report of a run that is over, and the end of the card. */
+static void settle(struct session *session, bool run)
+{
+    session->in_run = run && !card_over(&session->card);
+    if (run && !session->in_run) {
+        printf("run ");
+        show_report(&session->card.run);
+    }
+    session->card.open = session->in_run || session->card.at < session->card.length;
+    if (!session->card.open)
+        printf("the card is at its end\n");
+}
+
+/* One command of the card: done, or begun if it is a run. */
+static void feed(struct session *session)
+{
+    size_t at = session->card.at;
+    enum fed fed = card_feed(&session->card, &session->machine);
+    if (session->trace && fed != FED_END) {
+        printf("card %lu ", (unsigned long)at);
+        for (; at < session->card.at; at++)
+            printf(" %02X", session->card.bytes[at]);
+        printf("\n");
+    }
+    settle(session, fed == FED_RUN);
+}
+
+/* One step: in the card's run, in its next one, or free where no card is open. False where there is none: the card has come to its end
+ * without a run, or the machine is halted or lost. */
+static bool step(struct session *session, struct report *one)
+{
+    bool fed = session->card.open;
+    while (session->card.open && !session->in_run)
+        feed(session);
+    one->ending = TAC_ENDING_SPENT;
+    if (fed && !session->in_run)
+        return false;
+    if (session->trace)
+        session->before = session->machine;
+    *one = fed ? card_step(&session->card, &session->machine) : machine_run(&session->machine, 1);
+    if (session->trace && one->steps > 0)
+        show_step(&session->before, &session->machine, one);
+    if (fed)
+        settle(session, true);
+    return one->steps > 0;
+}
+
+/* Whether a step ended the motion; if so, says why. */
+static bool ended(const struct session *session, const struct report *one, enum until until, unsigned address, uint8_t byte)
+{
+    const struct machine *machine = &session->machine;
+    if (until == UNTIL_ENTRY && one->ending == TAC_ENDING_ENTERED)
+        return true;
+    if (until == UNTIL_ADDRESS && machine_pc(machine) == address) {
+        printf("at %04Xh\n", address);
+        return true;
+    }
+    if (until == UNTIL_CHANGE && machine->memory[address] != byte) {
+        printf("byte %04Xh changed from %02X to %02X\n", address, byte, machine->memory[address]);
+        return true;
+    }
+    return one->ending >= TAC_ENDING_HALTED;
+}
+
+/* What the last step entered, and the instruction to come. */
+static void say_where(const struct session *session, const struct report *last)
+{
+    char words[WORDS_BYTES];
+    if (last->ending == TAC_ENDING_ENTERED) {
+        entry_words(&session->machine, last->number, words, sizeof words);
+        printf("entered %s\n", words);
+    }
+    show_next(&session->machine);
+}
+
+void session_move(struct session *session, enum until until, unsigned address, unsigned long limit)
+{
+    static const char *const conditions[] = {"", ", halted", ", lost"};
+    unsigned long steps = 0, entries = 0;
+    unsigned long long states = 0;
+    struct report one = {0};
+    bool over = false, open = session->card.open;
+    uint8_t byte = session->machine.memory[address];
+    while (!over && steps < limit) {
+        over = !step(session, &one);
+        if (over)
+            break;
+        steps++;
+        states += one.states;
+        entries += one.ending == TAC_ENDING_ENTERED;
+        over = ended(session, &one, until, address, byte) || open != session->card.open;
+    }
+    if (!over && until != UNTIL_LIMIT)
+        printf("gave up: %lu steps are the limit\n", limit);
+    printf("steps %lu, states %llu, entries %lu%s\n", steps, states, entries,
+           conditions[session->machine.image[TAC_IMAGE_CONDITION]]);
+    say_where(session, &one);
+}
+
+void session_feed(struct session *session, unsigned long commands)
+{
+    struct report one;
+    for (; session->card.open && commands > 0; commands--) {
+        if (!session->in_run)
+            feed(session);
+        while (session->in_run)
+            step(session, &one);
+    }
+}

@@ -1,0 +1,28 @@
+/* The header in each standard of C and C++: its names, and the values that a caller counts on. */
+#include "tac.h"
+
+/* An array of no size is an error. */
+#define HOLDS(name, condition) typedef char name[(condition) ? 1 : -1]
+
+HOLDS(version, TAC_VERSION_MAJOR >= 1 && TAC_VERSION_MINOR >= 0);
+HOLDS(runs, TAC_CARD_RUNS == 1365 && TAC_CARD_REPORT_BYTES == 16380 && TAC_CARD_STEPS == 89455275);
+HOLDS(flags, (TAC_FLAG_E | TAC_FLAG_P | TAC_FLAG_I | TAC_FLAG_V | TAC_FLAG_C | TAC_FLAG_S | TAC_FLAG_Z) == 0xEF);
+HOLDS(tlb, (TAC_TLB_VALID | TAC_TLB_REFERENCED | TAC_TLB_DIRTY | TAC_TLB_READ | TAC_TLB_WRITE | TAC_TLB_EXECUTE | TAC_TLB_FRAME) == 0x9FFF);
+HOLDS(tlb_end, TAC_IMAGE_TLB + TAC_TLB_ENTRIES * TAC_TLB_ENTRY_BYTES <= TAC_IMAGE_BYTES && TAC_TLB_PAGE_SHIFT == 16);
+HOLDS(endings, TAC_ENDING_SPENT == 0 && TAC_ENDING_ENTERED == 1 && TAC_ENDING_HALTED == 2 && TAC_ENDING_LOST == 3);
+HOLDS(conditions, TAC_CONDITION_RUNNING == 0 && TAC_CONDITION_HALTED == 1 && TAC_CONDITION_LOST == 2);
+HOLDS(causes, TAC_CAUSE_RIGHT == 1 && TAC_CAUSE_ODD == 2);
+HOLDS(numbers, TAC_NUMBER_MISS == 10 && TAC_NUMBER_SVC == 15 && TAC_NUMBER_NONE == 255);
+HOLDS(commands, TAC_COMMAND_BYTE == 1 && TAC_COMMAND_FLAG == 7);
+HOLDS(refusals, TAC_GOOD == 0 && TAC_MEMORY_LENGTH == 1 && TAC_REPORT_LENGTH == 8);
+HOLDS(parts, TAC_REFUSAL(UINT64_C(0x700000017)) == 7 && TAC_PLACE(UINT64_C(0x700000017)) == 23 && TAC_FILLED(UINT64_C(24)) == 24);
+
+int main(void)
+{
+    static uint8_t memory[TAC_MEMORY_BYTES], image[TAC_IMAGE_BYTES], report[TAC_CARD_REPORT_BYTES];
+    static const uint8_t card[3] = {TAC_COMMAND_RUN, 0xFF, 0xFF};
+    uint64_t run = tac_run(memory, sizeof memory, image, sizeof image, TAC_ALLOWANCE, report, sizeof report);
+    uint64_t whole = tac_card(memory, sizeof memory, image, sizeof image, card, sizeof card, report, sizeof report);
+    uint64_t view = tac_view(memory, sizeof memory, image, sizeof image, report, sizeof report);
+    return TAC_REFUSAL(run | whole | view) == TAC_GOOD ? 0 : 1;
+}
