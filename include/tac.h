@@ -10,8 +10,9 @@
  * buffer of no bytes: memory gives refusal 1, the image 2, the report 8 unless it is that of a card without runs, and a card is the empty
  * one, which is good. A null pointer with another length is the caller's error. This is tested on the built library and not proved.
  *
- * A call keeps nothing for later calls, uses its buffers and some kilobytes of stack, and calls nothing. Calls on separate buffers may run
- * at the same time. Every call ends: a run after at most TAC_ALLOWANCE steps, a card after at most TAC_CARD_STEPS, which take some seconds.
+ * A call keeps nothing for later calls, uses its buffers and some kilobytes of stack, and calls nothing but memcpy and memset, which the
+ * program has to have. Calls on separate buffers may run at the same time. Every call ends: a run after at most TAC_ALLOWANCE steps, a card
+ * after at most TAC_CARD_STEPS, which take some seconds.
  */
 #ifndef TAC_H
 #define TAC_H
