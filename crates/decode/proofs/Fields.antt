@@ -3,16 +3,17 @@
 use mathlib.Core.Bool.{Bool, cond, false, true, _&&_, _||_}
 use mathlib.Core.List.{List}
 use mathlib.Core.Path.{ap, refl, sym, _∙_, _≡_}
-use Prim.Native.Nat.{suc, zero, ℕ, _%_, _*_, _+_, _/_, _<_}
+use Prim.Native.Nat.{suc, zero, ℕ, _%_, _*_, _+_, _-_, _/_, _<_}
 use native.Mathlib.Nat.{add-suc, add-zero, le-of-suc-le-suc, not-suc-le-zero, suc-add, zero-add}
 use native.Mathlib.Omega.{arith}
+use borrow.Author.Tests.{eqb-true, le-ltb, lt-ltb, ne-eqb}
 use lib.Dec.{eqb, lit<}
 use lib.ListN.{getD}
 use Rattle.word.specs.Word.{upper}
 use Rattle.decode.specs.Decode.{fieldsBad, firstIn, firstOf, hasSecond, rdBad, rdField, rxField, usesRx}
-use Rattle.decode.specs.Entry.{accessNumber, entriesFrom, entryOf, flag, flowNumber, packed, privilegeNumber, rdNumber, tableOf}
-use Rattle.decode.specs.Instructions.{Opcode, RdUse, Row, condition, costOf, known, opcodeOf, register, unknown, unused}
-use Rattle.decode.specs.Laws.{OpcodeHas, Small, all-small, opcode-has, small, small-row}
+use Rattle.decode.specs.Entry.{accessNumber, byNumber, entryOf, flowNumber, packed, packedRow, privilegeNumber, rdNumber, tableFrom, tableOf}
+use Rattle.decode.specs.Instructions.{Opcode, RdUse, Row, condition, costOf, eight, known, opcodeOf, register, row, rows, single, unknown, unused}
+use Rattle.decode.specs.Laws.{OpcodeHas, Small, all-small, inEachMode, inEachRow, opcode-has, small, small-row}
 use Rattle.decode.specs.Numbers.{access-back, accessFrom, flow-back, flowFrom, privilege-back, privilegeFrom}
 use Rattle.decode.specs.declared.DataAccess.{DataAccess}
 use Rattle.decode.specs.declared.DataAccess.the-variants.{Destination, Flag, None, Pop, PopTwo, Push, Source}
@@ -26,57 +27,24 @@ use Rattle.decode.specs.declared.Shape.{Shape}
 
 -- ---- an entry's fields, as they are taken out of it
 
-record Bits (e code m x w cost u p a f : ℕ) : Type 0 where
+record Bits (e code m cost : ℕ) : Type 0 where
   pub number : e % 32 ≡ code
   pub mode : e / 0x20 % 16 ≡ m
-  pub rx : e / 0x200 % 2 ≡ x
-  pub second : e / 0x400 % 2 ≡ w
-  pub known : e / 0x800 % 2 ≡ 1
-  pub states : e / 0x1000 % 128 ≡ cost
-  pub rd : e / 0x80000 % 4 ≡ u
-  pub privilege : e / 0x200000 % 4 ≡ p
-  pub access : e / 0x800000 % 8 ≡ a
-  pub flow : e / 0x4000000 % 8 ≡ f
+  pub states : e / 0x200 % 128 ≡ cost
+  pub some : eqb e 0 ≡ false
 
-bits :
-    (code m x w cost u p a f : ℕ)
-    → code < 32
-    → m < 9
-    → x < 2
-    → w < 2
-    → cost < 128
-    → u < 4
-    → p < 4
-    → a < 8
-    → f < 8
-    → Bits
-    (code + 0x20 * m + 0x200 * x + 0x400 * w + 0x800 + 0x1000 * cost + 0x80000 * u + 0x200000 * p + 0x800000 * a + 0x4000000 * f)
-    code
-    m
-    x
-    w
-    cost
-    u
-    p
-    a
-    f
-bits code m x w cost u p a f h1 h2 h3 h4 h5 h6 h7 h8 h9 =
-    record {
-      number = omega arith;
-      mode = omega arith;
-      rx = omega arith;
-      second = omega arith;
-      known = omega arith;
-      states = omega arith;
-      rd = omega arith;
-      privilege = omega arith;
-      access = omega arith;
-      flow = omega arith;
-    }
+bits : (code m cost : ℕ) → code < 32 → m < 9 → cost < 128 → 0 < cost → Bits (code + 0x20 * m + 0x200 * cost) code m cost
+bits code m cost h1 h2 h3 h4 =
+    record { number = omega arith; mode = omega arith; states = omega arith; some = ne-eqb (code + 0x20 * m + 0x200 * cost) 0 (λ e. omega (arith, e)) }
 
-flag-small : (t : Bool) → flag t < 2
-flag-small true = lit< tt
-flag-small false = lit< tt
+record RowBits (f u p a g : ℕ) : Type 0 where
+  pub rd : f % 4 ≡ u
+  pub privilege : f / 4 % 4 ≡ p
+  pub access : f / 0x10 % 8 ≡ a
+  pub flow : f / 0x80 % 8 ≡ g
+
+row-bits : (u p a g : ℕ) → u < 4 → p < 4 → a < 8 → g < 8 → RowBits (u + 4 * p + 0x10 * a + 0x80 * g) u p a g
+row-bits u p a g h1 h2 h3 h4 = record { rd = omega arith; privilege = omega arith; access = omega arith; flow = omega arith }
 
 rd-small : (u : RdUse) → rdNumber u < 4
 rd-small unused = lit< tt
@@ -109,38 +77,34 @@ flow-small Shift = lit< tt
 
 -- ---- the first word by its entry
 
-abbrev pub badEntry : ℕ → ℕ → ℕ → Bool
-badEntry e rd rx =
-    ((eqb rd 15 && eqb (e / 0x80000 % 4) 1) || (eqb rd 13 && eqb (e / 0x80000 % 4) 2)) || (eqb rx 15 && eqb (e / 0x200 % 2) 1)
+-- `e` is the entry of the byte, `f` that of the number
+abbrev pub badEntry : ℕ → ℕ → ℕ → ℕ → Bool
+badEntry e f rd rx =
+    ((eqb rd 15 && eqb (f % 4) 1) || (eqb rd 13 && eqb (f % 4) 2)) || (eqb rx 15 && usesRx (e / 0x20 % 16))
 
-abbrev pub shapeEntry : ℕ → ℕ → Shape
-shapeEntry e w =
+abbrev pub shapeEntry : ℕ → ℕ → ℕ → Shape
+shapeEntry e f w =
     record {
       code = e % 32;
       mode = e / 0x20 % 16;
       rd = rdField w;
       rx = rxField w;
-      second = eqb (e / 0x400 % 2) 1;
-      cost = e / 0x1000 % 128;
-      privilege = privilegeFrom (e / 0x200000 % 4);
-      access = accessFrom (e / 0x800000 % 8);
-      flow = flowFrom (e / 0x4000000 % 8);
+      second = hasSecond (e / 0x20 % 16);
+      cost = e / 0x200 % 128;
+      privilege = privilegeFrom (f / 4 % 4);
+      access = accessFrom (f / 0x10 % 8);
+      flow = flowFrom (f / 0x80 % 8);
     }
 
-abbrev pub firstEntry : ℕ → ℕ → First
-firstEntry e w =
-    cond (eqb (e / 0x800 % 2) 0) Undefined
-    (cond (badEntry e (rdField w) (rxField w)) Undefined (Defined (shapeEntry e w)))
+abbrev pub firstEntry : ℕ → ℕ → ℕ → First
+firstEntry e f w =
+    cond (eqb e 0) Undefined (cond (badEntry e f (rdField w) (rxField w)) Undefined (Defined (shapeEntry e f w)))
 
-pub entry-bad : (e w : ℕ) → eqb (e / 0x800 % 2) 0 ≡ false → badEntry e (rdField w) (rxField w) ≡ true → firstEntry e w ≡ Undefined
-entry-bad e w h bad = rw (h, bad)
+pub entry-bad : (e f w : ℕ) → eqb e 0 ≡ false → badEntry e f (rdField w) (rxField w) ≡ true → firstEntry e f w ≡ Undefined
+entry-bad e f w h bad = rw (h, bad)
 
-pub entry-good : (e w : ℕ) → eqb (e / 0x800 % 2) 0 ≡ false → badEntry e (rdField w) (rxField w) ≡ false → firstEntry e w ≡ Defined (shapeEntry e w)
-entry-good e w h good = rw (h, good)
-
-flag-back : (t : Bool) → eqb (flag t) 1 ≡ t
-flag-back true = refl
-flag-back false = refl
+pub entry-good : (e f w : ℕ) → eqb e 0 ≡ false → badEntry e f (rdField w) (rxField w) ≡ false → firstEntry e f w ≡ Defined (shapeEntry e f w)
+entry-good e f w h good = rw (h, good)
 
 only-left : (a b : Bool) → (a && true) || (b && false) ≡ a
 only-left true b = refl
@@ -164,42 +128,62 @@ rd-back register n = only-left (eqb n 15) (eqb n 13)
 rd-back condition n = only-right (eqb n 15) (eqb n 13)
 rd-back unused n = neither (eqb n 15) (eqb n 13)
 
-by-row : (r : Row) (m w : ℕ) → Small r m → firstIn (known r m) w ≡ firstEntry (packed (known r m)) w
+by-row : (r : Row) (m w : ℕ) → Small r m → firstIn (known r m) w ≡ firstEntry (packed (known r m)) (packedRow r) w
 unfolding fieldsBad
 by-row r m w h =
-    let b =
-    bits (r .code) m (flag (usesRx m)) (flag (hasSecond m)) (costOf r m) (rdNumber (r .rd)) (privilegeNumber (r .privilege))
-    (accessNumber (r .access))
-    (flowNumber (r .flow))
-    (h .code)
-    (h .mode)
-    (flag-small (usesRx m))
-    (flag-small (hasSecond m))
-    (h .cost)
-    (rd-small (r .rd))
+    let b = bits (r .code) m (costOf r m) (h .code) (h .mode) (h .cost) (h .some) in
+    let c =
+    row-bits (rdNumber (r .rd)) (privilegeNumber (r .privilege)) (accessNumber (r .access)) (flowNumber (r .flow)) (rd-small (r .rd))
     (privilege-small (r .privilege))
     (access-small (r .access))
     (flow-small (r .flow)) in
-    rw (b .known, b .number, b .mode, b .rx, b .second, b .states, b .rd, b .privilege, b .access, b .flow)
-    (rw (flag-back (usesRx m), flag-back (hasSecond m), rd-back (r .rd) (rdField w))
-    (rw (privilege-back (r .privilege), access-back (r .access), flow-back (r .flow))))
+    rw (b .some, b .number, b .mode, b .states, c .rd, c .privilege, c .access, c .flow)
+    (rw (rd-back (r .rd) (rdField w), privilege-back (r .privilege), access-back (r .access), flow-back (r .flow)))
 
-by-opcode : (o : Opcode) (w : ℕ) → OpcodeHas small o → firstIn o w ≡ firstEntry (packed o) w
-by-opcode unknown w h = refl
-by-opcode (known r m) w h = by-row r m w (small-row r m h)
+-- the entry of a row's number is the row's
+listed : Row → ℕ → Bool
+listed r m = eqb (byNumber (r .code) rows) (packedRow r)
 
-entries-at : (n i k : ℕ) → k < n → getD (entriesFrom i n) k 0 ≡ entryOf (i + k)
-unfolding entriesFrom
+all-listed : inEachRow listed rows ≡ true
+unfolding listed rows row eight single inEachMode inEachRow byNumber
+all-listed = refl
+
+by-opcode :
+    (o : Opcode) (w : ℕ) → OpcodeHas small o → OpcodeHas listed o → firstIn o w ≡ firstEntry (packed o) (byNumber (packed o % 32) rows) w
+unfolding listed
+by-opcode unknown w h k = refl
+by-opcode (known r m) w h k =
+    let s = small-row r m h in
+    let n : packed (known r m) % 32 ≡ r .code = (bits (r .code) m (costOf r m) (s .code) (s .mode) (s .cost) (s .some)) .number in
+    by-row r m w s ∙ ap (λ (f : ℕ). firstEntry (packed (known r m)) f w) (sym (ap (λ (c : ℕ). byNumber c rows) n ∙ eqb-true _ _ k))
+
+entries-at : (n i k : ℕ) → k < n → getD (tableFrom i n) k 0 ≡ entryOf (i + k)
+unfolding tableFrom
 entries-at zero i k h = absurd (not-suc-le-zero h)
 entries-at (suc n) i zero h = rw (add-zero i)
 entries-at (suc n) i (suc k) h = entries-at n (suc i) k (le-of-suc-le-suc h) ∙ ap entryOf (suc-add i k ∙ sym (add-suc i k))
 
-by-table : (w : ℕ) → upper w < 256 → firstOf w ≡ firstEntry (getD tableOf (upper w) 0) w
-unfolding firstOf tableOf entryOf
-by-table w h =
-    by-opcode (opcodeOf (upper w)) w (opcode-has small all-small (upper w))
-    ∙ ap (λ (e : ℕ). firstEntry e w) (ap entryOf (sym (zero-add (upper w))) ∙ sym (entries-at 256 0 (upper w) h))
+entry-at : (k : ℕ) → k < 288 → getD tableOf k 0 ≡ entryOf k
+unfolding tableOf
+entry-at k h = entries-at 288 0 k h ∙ ap entryOf (zero-add k)
 
--- what the first word says, by the entry for its upper byte
-pub first-by-entry : (t : List ℕ) (w : ℕ) → t ≡ tableOf → w < 65536 → firstOf w ≡ firstEntry (getD t (upper w) 0) w
+byte-entry : (k : ℕ) → k < 256 → getD tableOf k 0 ≡ packed (opcodeOf k)
+unfolding entryOf
+byte-entry k h = entry-at k (omega arith) ∙ rw (lt-ltb k 256 h)
+
+number-entry : (code : ℕ) → code < 32 → getD tableOf (256 + code) 0 ≡ byNumber code rows
+unfolding entryOf
+number-entry code h =
+    let n : 256 + code - 256 ≡ code = omega arith in
+    entry-at (256 + code) (omega arith) ∙ rw (le-ltb (256 + code) 256 (omega arith), n)
+
+by-table : (w : ℕ) → upper w < 256 → firstOf w ≡ firstEntry (getD tableOf (upper w) 0) (getD tableOf (256 + getD tableOf (upper w) 0 % 32) 0) w
+unfolding firstOf
+by-table w h =
+    rw (number-entry (getD tableOf (upper w) 0 % 32) (omega arith), byte-entry (upper w) h)
+    (by-opcode (opcodeOf (upper w)) w (opcode-has small all-small (upper w)) (opcode-has listed all-listed (upper w)))
+
+-- what the first word says, by the entry of its upper byte and that of the number there
+pub first-by-entry :
+    (t : List ℕ) (w : ℕ) → t ≡ tableOf → w < 65536 → firstOf w ≡ firstEntry (getD t (upper w) 0) (getD t (256 + getD t (upper w) 0 % 32) 0) w
 first-by-entry t w e h = rw e (by-table w (omega arith))

@@ -1,20 +1,16 @@
--- The decoding table: "an entry for each of the 256 first bytes".
+-- The decoding table: "an entry for each of the 256 first bytes", and behind them one for each instruction's number.
 -- Assumes nothing.
-use mathlib.Core.Bool.{Bool, false, true}
+use mathlib.Core.Bool.{cond}
 use mathlib.Core.List.{List, [], _∷_}
-use Prim.Native.Nat.{suc, zero, ℕ, _*_, _+_}
-use Rattle.decode.specs.Decode.{hasSecond, usesRx}
-use Rattle.decode.specs.Instructions.{Opcode, RdUse, condition, costOf, known, opcodeOf, register, unknown, unused}
+use Prim.Native.Nat.{suc, zero, ℕ, _*_, _+_, _-_}
+use lib.Dec.{eqb, ltb}
+use Rattle.decode.specs.Instructions.{Opcode, RdUse, Row, condition, costOf, known, opcodeOf, register, rows, unknown, unused}
 use Rattle.decode.specs.declared.DataAccess.{DataAccess}
 use Rattle.decode.specs.declared.DataAccess.the-variants.{Destination, Flag, None, Pop, PopTwo, Push, Source}
 use Rattle.decode.specs.declared.Flow.{Flow}
 use Rattle.decode.specs.declared.Flow.the-variants.{Call, Divide, Jump, Next, Resume, Return, Shift, Trap}
 use Rattle.decode.specs.declared.Privilege.{Privilege}
 use Rattle.decode.specs.declared.Privilege.the-variants.{Anyone, Kernel, Ports}
-
-abbrev pub flag : Bool → ℕ
-flag true = 1
-flag false = 0
 
 -- the numbers that stand in an entry for what Rd is, a privilege, a data access and a flow
 abbrev pub rdNumber : RdUse → ℕ
@@ -46,25 +42,29 @@ flowNumber Trap = 5
 flowNumber Divide = 6
 flowNumber Shift = 7
 
--- An entry holds, from its lowest bit up: the instruction's number (5 bits), the mode (4), whether the last field is a register's, whether a
--- second word follows, whether the byte is an instruction (a bit each), the states (7), what Rd is (2), the privilege (2), the data access
--- (3), the flow (3).
+-- The entry of a first byte holds, from its lowest bit up: the instruction's number (5 bits), the mode (4), the states (7).
 abbrev pub packed : Opcode → ℕ
 packed unknown = 0
-packed (known r mode) =
-    r .code + 0x20 * mode + 0x200 * flag (usesRx mode) + 0x400 * flag (hasSecond mode) + 0x800 + 0x1000 * costOf r mode
-    + 0x80000 * rdNumber (r .rd)
-    + 0x200000 * privilegeNumber (r .privilege)
-    + 0x800000 * accessNumber (r .access)
-    + 0x4000000 * flowNumber (r .flow)
+packed (known r mode) = r .code + 0x20 * mode + 0x200 * costOf r mode
 
+-- The entry of an instruction's number holds what is the same in all its modes: what Rd is (2 bits), the privilege (2), the data access (3), the
+-- flow (3).
+abbrev pub packedRow : Row → ℕ
+packedRow r =
+    rdNumber (r .rd) + 4 * privilegeNumber (r .privilege) + 0x10 * accessNumber (r .access) + 0x80 * flowNumber (r .flow)
+
+unfoldable pub byNumber : ℕ → List Row → ℕ
+byNumber code [] = 0
+byNumber code (r ∷ rs) = cond (eqb code (r .code)) (packedRow r) (byNumber code rs)
+
+-- the first bytes, then the 32 numbers
 unfoldable pub entryOf : ℕ → ℕ
-entryOf byte = packed (opcodeOf byte)
+entryOf i = cond (ltb i 256) (packed (opcodeOf i)) (byNumber (i - 256) rows)
 
--- the entries of `n` bytes from `from` on
-unfoldable pub entriesFrom : ℕ → ℕ → List ℕ
-entriesFrom from zero = []
-entriesFrom from (suc n) = entryOf from ∷ entriesFrom (suc from) n
+-- `n` entries from `from` on
+unfoldable pub tableFrom : ℕ → ℕ → List ℕ
+tableFrom from zero = []
+tableFrom from (suc n) = entryOf from ∷ tableFrom (suc from) n
 
 unfoldable pub tableOf : List ℕ
-tableOf = entriesFrom 0 256
+tableOf = tableFrom 0 288

@@ -77,7 +77,7 @@ module _ (test : Row → ℕ → Bool) where
 -- ---- the numbers are small
 
 abbrev pub small : Row → ℕ → Bool
-small r m = ltb (r .code) 32 && (ltb m 9 && ltb (costOf r m) 128)
+small r m = ltb (r .code) 32 && (ltb m 9 && (ltb (costOf r m) 128 && ltb 0 (costOf r m)))
 
 pub all-small : inEachRow small rows ≡ true
 unfolding rows row eight single addStates divStates shiftStates inEachMode inEachRow costOf statesAt
@@ -88,14 +88,17 @@ pub record Small (r : Row) (m : ℕ) : Type 0 where
   pub code : r .code < 32
   pub mode : m < 9
   pub cost : costOf r m < 128
+  pub some : 0 < costOf r m
 
 pub small-row : (r : Row) (m : ℕ) → small r m ≡ true → Small r m
 small-row r m t =
-    let two = rest (ltb (r .code) 32) (ltb m 9 && ltb (costOf r m) 128) t in
+    let three = rest (ltb (r .code) 32) (ltb m 9 && (ltb (costOf r m) 128 && ltb 0 (costOf r m))) t in
+    let two = rest (ltb m 9) (ltb (costOf r m) 128 && ltb 0 (costOf r m)) three in
     record {
-      code = ltb-true _ _ (this (ltb (r .code) 32) (ltb m 9 && ltb (costOf r m) 128) t);
-      mode = ltb-true _ _ (this (ltb m 9) (ltb (costOf r m) 128) two);
-      cost = ltb-true _ _ (rest (ltb m 9) (ltb (costOf r m) 128) two);
+      code = ltb-true _ _ (this (ltb (r .code) 32) (ltb m 9 && (ltb (costOf r m) 128 && ltb 0 (costOf r m))) t);
+      mode = ltb-true _ _ (this (ltb m 9) (ltb (costOf r m) 128 && ltb 0 (costOf r m)) three);
+      cost = ltb-true _ _ (this (ltb (costOf r m) 128) (ltb 0 (costOf r m)) two);
+      some = ltb-true _ _ (rest (ltb (costOf r m) 128) (ltb 0 (costOf r m)) two);
     }
 
 -- the numbers of a defined first word

@@ -8,8 +8,10 @@ use crate::First;
 use crate::Flow;
 use crate::Privilege;
 use crate::Shape;
+use crate::table::ENTRIES;
+use crate::table::NUMBERS;
 
-fn privilege_from(n: u32) -> Privilege
+fn privilege_from(n: u16) -> Privilege
     ensures { λ r. ⌜ r ≡ privilegeFrom n ⌝ }
 {
     match n {
@@ -19,7 +21,7 @@ fn privilege_from(n: u32) -> Privilege
     }
 }
 
-fn access_from(n: u32) -> DataAccess
+fn access_from(n: u16) -> DataAccess
     ensures { λ r. ⌜ r ≡ accessFrom n ⌝ }
 {
     match n {
@@ -33,7 +35,7 @@ fn access_from(n: u32) -> DataAccess
     }
 }
 
-fn flow_from(n: u32) -> Flow
+fn flow_from(n: u16) -> Flow
     ensures { λ r. ⌜ r ≡ flowFrom n ⌝ }
 {
     match n {
@@ -48,33 +50,44 @@ fn flow_from(n: u32) -> Flow
     }
 }
 
+// The last field is a register's.
+fn uses_rx(mode: u16) -> bool
+    ensures { λ r. ⌜ r ≡ def.usesRx mode ⌝ }
+{
+    (mode == 1) | ((mode == 4) | ((mode == 6) | (mode == 7)))
+}
+
 // The first word of an instruction.
-pub fn first_word(table: &[u32; 256], word: u16) -> First
+pub fn first_word(table: &[u16; ENTRIES], word: u16) -> First
     requires { ⌜ now table ≡ tableOf ⌝ }
     ensures { λ r. ⌜ r ≡ def.firstOf word ⌝ }
 {
     let byte = (word / 256) as usize;
     let entry = table[byte];
-    if entry / 0x800 % 2 == 0 {
+    if entry == 0 {
         return First::Undefined;
     }
+    let code = entry % 32;
+    let mode = entry / 0x20 % 16;
+    let number = NUMBERS + code as usize;
+    let row = table[number];
     let rd = word / 16 % 16;
     let rx = word % 16;
-    let bad_rd = (rd == 15) & (entry / 0x80000 % 4 == 1);
-    let bad_condition = (rd == 13) & (entry / 0x80000 % 4 == 2);
-    let bad_rx = (rx == 15) & (entry / 0x200 % 2 == 1);
+    let bad_rd = (rd == 15) & (row % 4 == 1);
+    let bad_condition = (rd == 13) & (row % 4 == 2);
+    let bad_rx = (rx == 15) & uses_rx(mode);
     if bad_rd | bad_condition | bad_rx {
         return First::Undefined;
     }
     First::Defined(Shape {
-        code: (entry % 32) as u8,
-        mode: (entry / 0x20 % 16) as u8,
+        code: code as u8,
+        mode: mode as u8,
         rd: rd as u8,
         rx: rx as u8,
-        second: entry / 0x400 % 2 == 1,
-        cost: (entry / 0x1000 % 128) as u8,
-        privilege: privilege_from(entry / 0x200000 % 4),
-        access: access_from(entry / 0x800000 % 8),
-        flow: flow_from(entry / 0x4000000 % 8),
+        second: mode < 3,
+        cost: (entry / 0x200 % 128) as u8,
+        privilege: privilege_from(row / 4 % 4),
+        access: access_from(row / 0x10 % 8),
+        flow: flow_from(row / 0x80 % 8),
     })
 }

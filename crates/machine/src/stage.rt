@@ -12,6 +12,7 @@ use crate::State;
 use crate::Transfer;
 use crate::needs::value_stored;
 use crate::transferring::transfer_for;
+use decode::ENTRIES;
 use decode::First;
 use decode::Flow;
 use decode::Instruction;
@@ -179,25 +180,30 @@ impl State {
         requires { ⌜ length (now mem) ≡ 65536 ⌝ }
         ensures { λ r. ⌜ r ≡ def.planSecond self (now (mem .entry)) shape ⌝ }
     {
-        if !shape.second {
-            let ins = decode::decoded(shape, 0);
-            return self.plan_operand(mem, ins, plus(self.pc, 2));
-        }
-        let a = plus(self.pc, 2);
-        let x = self.fetch(a);
-        let marks = x.tlb;
-        let access = x.access;
-        let state = self.set_tlb(marks);
-        match access {
-            Access::At(at) => {
-                let ins = decode::decoded(shape, word_at(mem, at));
-                state.plan_operand(mem, ins, plus(self.pc, 4))
+        let mut state = self;
+        let mut second = 0;
+        let mut following = plus(self.pc, 2);
+        if shape.second {
+            let a = following;
+            let x = self.fetch(a);
+            let marks = x.tlb;
+            let access = x.access;
+            state = self.set_tlb(marks);
+            match access {
+                Access::At(at) => {
+                    second = word_at(mem, at);
+                    following = plus(self.pc, 4);
+                }
+                Access::Fails(why) => {
+                    return Planned {
+                        plan: Plan::Violation(why, a),
+                        state,
+                    };
+                }
             }
-            Access::Fails(why) => Planned {
-                plan: Plan::Violation(why, a),
-                state,
-            },
         }
+        let ins = decode::decoded(shape, second);
+        state.plan_operand(mem, ins, following)
     }
 
     // Whether an instruction may be carried out in this mode.
@@ -235,7 +241,7 @@ impl State {
     }
 
     // The fetch, and on.
-    fn plan_fetch(self, mem: &[u8], table: &[u32; 256]) -> Planned
+    fn plan_fetch(self, mem: &[u8], table: &[u16; ENTRIES]) -> Planned
         requires { ⌜ (length (now mem) ≡ 65536) × (now table ≡ tableOf) ⌝ }
         ensures { λ r. ⌜ r ≡ def.planFetch self (now (mem .entry)) ⌝ }
     {
@@ -256,7 +262,7 @@ impl State {
     }
 
     // The plan of a step, and the state with the marks of its accesses.
-    pub fn plan(self, mem: &[u8], table: &[u32; 256]) -> Planned
+    pub fn plan(self, mem: &[u8], table: &[u16; ENTRIES]) -> Planned
         requires { ⌜ (length (now mem) ≡ 65536) × (now table ≡ tableOf) ⌝ }
         ensures { λ r. ⌜ r ≡ def.planOf self (now (mem .entry)) ⌝ }
     {

@@ -8,6 +8,7 @@ use crate::State;
 use crate::Stepped;
 use crate::execution::event_of;
 use crate::record::fault_number;
+use decode::ENTRIES;
 use mmu::make_store;
 
 // The pending lines without one of them.
@@ -31,28 +32,37 @@ impl State {
         ensures answer { λ r. ⌜ r ≡ def.answer (def.commit plan self (now (mem .entry))) ⌝ }
         ensures memory { λ r. ⌜ now (mem .exit) ≡ (def.commit plan self (now (mem .entry))) .memory ⌝ }
     {
+        let mut state = self;
+        let mut pending = self.pending;
+        let mut saved = self.pc;
+        let number: u8;
         match plan {
             Plan::Interrupt(line) => {
-                self.enter_kernel(mem, without(self.pending, line), line, self.pc)
+                number = line;
+                pending = without(self.pending, line);
             }
             Plan::Violation(why, a) => {
-                self.note(why, a)
-                    .enter_kernel(mem, self.pending, fault_number(why), self.pc)
+                number = fault_number(why);
+                state = self.note(why, a);
             }
-            Plan::Trap(number, saved) => self.enter_kernel(mem, self.pending, number, saved),
+            Plan::Trap(trap, pc) => {
+                number = trap;
+                saved = pc;
+            }
             Plan::Perform(op) => {
                 let store = op.store;
                 make_store(mem, store);
-                Stepped {
+                return Stepped {
                     state: self.perform(op),
                     event: event_of(op),
-                }
+                };
             }
         }
+        state.enter_kernel(mem, pending, number, saved)
     }
 
     // One step of a running machine, with the decoding table lent.
-    pub fn step(self, mem: &mut [u8], table: &[u32; 256]) -> Stepped
+    pub fn step(self, mem: &mut [u8], table: &[u16; ENTRIES]) -> Stepped
         requires { ⌜ (length (now mem) ≡ 65536) × (now table ≡ tableOf) ⌝ }
         ensures answer { λ r. ⌜ r ≡ def.answer (def.stepOf self (now (mem .entry))) ⌝ }
         ensures memory { λ r. ⌜ now (mem .exit) ≡ (def.stepOf self (now (mem .entry))) .memory ⌝ }

@@ -4,6 +4,7 @@ ghost use lib.ListN.{length};
 ghost use Rattle.decode.specs.Entry.{tableOf};
 ghost use Rattle.machine.specs.Run as def;
 use crate::ahead::ahead;
+use decode::ENTRIES;
 use machine::Condition;
 use machine::Ending;
 use machine::Event;
@@ -12,7 +13,7 @@ use machine::State;
 use machine::states_of;
 
 // A run of at most `allowance` steps, with the decoding table lent.
-pub fn run(start: State, mem: &mut [u8], allowance: u16, table: &[u32; 256]) -> Finished
+pub fn run(start: State, mem: &mut [u8], allowance: u16, table: &[u16; ENTRIES]) -> Finished
     requires { ⌜ (length (now mem) ≡ 65536) × (now table ≡ tableOf) ⌝ }
     ensures answer { λ r. ⌜ r ≡ def.finished (def.runOf allowance start (now (mem .entry))) ⌝ }
     ensures memory { λ r. ⌜ now (mem .exit) ≡ (def.runOf allowance start (now (mem .entry))) .memory ⌝ }
@@ -54,7 +55,7 @@ pub fn run(start: State, mem: &mut [u8], allowance: u16, table: &[u32; 256]) -> 
 }
 
 // A run that goes on through kernel entries, to a halt or a loss.
-pub fn run_through(start: State, mem: &mut [u8], allowance: u16, table: &[u32; 256]) -> Finished
+pub fn run_through(start: State, mem: &mut [u8], allowance: u16, table: &[u16; ENTRIES]) -> Finished
     requires { ⌜ (length (now mem) ≡ 65536) × (now table ≡ tableOf) ⌝ }
     ensures answer { λ r. ⌜ r ≡ def.finished (def.throughOf allowance start (now (mem .entry))) ⌝ }
     ensures memory { λ r. ⌜ now (mem .exit) ≡ (def.throughOf allowance start (now (mem .entry))) .memory ⌝ }

@@ -1,12 +1,12 @@
--- `decode::opcode::first_word` meets its contract: by the table's rule at the word's upper byte.
+-- `decode::opcode::first_word` meets its contract: by the table's rules at the word's upper byte and at the number there.
 -- Assumes nothing.
 use mathlib.Core.Path.{sym, _∙_, _≡_}
-use Prim.Native.Nat.{ℕ}
+use Prim.Native.Nat.{ℕ, _%_, _+_}
 use lib.ListN.{getD}
 use borrow.Author.Needs.{needs}
 use borrow.Author.Tests.{eq-eqb, ne-eqb}
 use Rattle.word.specs.Word.{upper}
-use Rattle.decode.specs.Decode.{firstOf}
+use Rattle.decode.specs.Decode.{firstOf, hasSecond}
 use Rattle.decode.proofs.Fields.{entry-bad, entry-good, first-by-entry, firstEntry}
 use Rattle.decode.proofs.opcode.first_word.Statement.{statement}
 use Rattle.decode.proofs.opcode.first_word.Tie as tie
@@ -17,7 +17,10 @@ word c = c .args .word
 abbrev entry : tie.Start → ℕ
 entry c = getD (c .args .table .now) (upper (word c)) 0
 
-by-entry : (c : tie.Start) → firstOf (word c) ≡ firstEntry (entry c) (word c)
+abbrev row : tie.Start → ℕ
+row c = getD (c .args .table .now) (256 + entry c % 32) 0
+
+by-entry : (c : tie.Start) → firstOf (word c) ≡ firstEntry (entry c) (row c) (word c)
 by-entry c = first-by-entry _ _ (c .pre) (c .fits .word .fits)
 
 cast-byte : tie.Need-cast-byte
@@ -32,22 +35,37 @@ element-copy-out-entry c = search needs
 returns : tie.Need-returns
 returns c = sym (by-entry (c .before .before) ∙ rw (eq-eqb _ _ (c .if1 .taken)))
 
+cast-number : tie.Need-cast-number
+cast-number c = search needs
+
+add-number : tie.Need-add-number
+add-number c = search needs
+
+mul-row : tie.Need-mul-row
+mul-row c = search needs
+
+element-copy-out-row : tie.Need-element-copy-out-row
+element-copy-out-row c = search needs
+
+uses-rx-requires : tie.Need-uses-rx-requires
+uses-rx-requires c κs = search needs
+
 returns-2 : tie.Need-returns-2
 returns-2 c =
-    let s = c .before .before .before in
-    sym (by-entry s ∙ entry-bad (entry s) (word s) (ne-eqb _ _ (c .before .if1 .left)) (c .if2 .taken))
-
-cast-t18 : tie.Need-cast-t18
-cast-t18 c = search needs
-
-cast-t20 : tie.Need-cast-t20
-cast-t20 c = search needs
-
-cast-t21 : tie.Need-cast-t21
-cast-t21 c = search needs
+    let s = c .before .before .before .before .before in
+    sym (by-entry s ∙ entry-bad (entry s) (row s) (word s) (ne-eqb _ _ (c .before .before .before .if1 .left)) (rw (← c .before .uses-rx .ensures) (c .if2 .taken)))
 
 cast-t22 : tie.Need-cast-t22
 cast-t22 c = search needs
+
+cast-t23 : tie.Need-cast-t23
+cast-t23 c = search needs
+
+cast-t24 : tie.Need-cast-t24
+cast-t24 c = search needs
+
+cast-t25 : tie.Need-cast-t25
+cast-t25 c = search needs
 
 cast-t27 : tie.Need-cast-t27
 cast-t27 c = search needs
@@ -62,11 +80,14 @@ flow-from-requires : tie.Need-flow-from-requires
 flow-from-requires c κs = search needs
 
 returns-3 : tie.Need-returns-3
+unfolding hasSecond
 returns-3 c =
     let d = c .before .before .before in
-    let s = d .before .before .before in
+    let s = d .before .before .before .before .before in
     rw (c .before .before .privilege-from .ensures, c .before .access-from .ensures, c .flow-from .ensures)
-    (sym (by-entry s ∙ entry-good (entry s) (word s) (ne-eqb _ _ (d .before .if1 .left)) (d .if2 .left)))
+    (sym
+    (by-entry s
+    ∙ entry-good (entry s) (row s) (word s) (ne-eqb _ _ (d .before .before .before .if1 .left)) (rw (← d .before .uses-rx .ensures) (d .if2 .left))))
 
 pub first-word-spec : {M : Type 1} → statement M
 first-word-spec =
@@ -76,11 +97,16 @@ first-word-spec =
     mul-entry
     element-copy-out-entry
     returns
+    cast-number
+    add-number
+    mul-row
+    element-copy-out-row
+    uses-rx-requires
     returns-2
-    cast-t18
-    cast-t20
-    cast-t21
     cast-t22
+    cast-t23
+    cast-t24
+    cast-t25
     cast-t27
     privilege-from-requires
     access-from-requires

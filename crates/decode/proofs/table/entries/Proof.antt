@@ -1,14 +1,13 @@
 -- `decode::table::entries` meets its contract: the table is the rule's, entry by entry, by computation.
 -- Assumes nothing.
 use mathlib.Core.Path.{refl}
-use Rattle.decode.specs.Decode.{hasSecond, usesRx}
-use Rattle.decode.specs.Entry.{entriesFrom, entryOf, tableOf}
+use Rattle.decode.specs.Entry.{byNumber, entryOf, tableFrom, tableOf}
 use Rattle.decode.specs.Instructions.{addStates, costOf, divStates, eight, inModes, inRows, modeBits, opcodeOf, row, rows, shiftStates, single, statesAt}
 use Rattle.decode.proofs.table.entries.Statement.{statement}
 use Rattle.decode.proofs.table.entries.Tie as tie
 
 returns : tie.Need-returns
-unfolding tableOf entriesFrom entryOf opcodeOf inRows inModes modeBits rows row eight single addStates divStates shiftStates usesRx hasSecond costOf statesAt
+unfolding tableOf tableFrom entryOf byNumber opcodeOf inRows inModes modeBits rows row eight single addStates divStates shiftStates costOf statesAt
 returns c = refl
 
 pub entries-spec : {M : Type 1} → statement M

@@ -1,6 +1,9 @@
 -- `machine::State::commit` meets its contract.
 -- Assumes nothing.
+use mathlib.Core.Logic.{⊎-elim}
+use mathlib.Core.Path.{_≡_}
 use borrow.Author.Needs.{needs}
+use Rattle.machine.specs.Enter.{enterOf}
 use Rattle.machine.specs.Step.{commit}
 use Rattle.machine.proofs.Answers.{entry}
 use Rattle.machine.proofs.State.commit.Statement.{statement}
@@ -12,26 +15,17 @@ enum-known-plan c = search needs
 without-requires : tie.Need-without-requires
 without-requires c κs = search needs
 
-enter-kernel-requires : tie.Need-enter-kernel-requires
-enter-kernel-requires c κs = search needs
-
 enum-known-plan-2 : tie.Need-enum-known-plan-2
 enum-known-plan-2 c = search needs
-
-note-requires : tie.Need-note-requires
-note-requires c κs = search needs
 
 fault-number-requires : tie.Need-fault-number-requires
 fault-number-requires c κs = search needs
 
-enter-kernel-requires-2 : tie.Need-enter-kernel-requires-2
-enter-kernel-requires-2 c κs = search needs
+note-requires : tie.Need-note-requires
+note-requires c κs = search needs
 
 enum-known-plan-3 : tie.Need-enum-known-plan-3
 enum-known-plan-3 c = search needs
-
-enter-kernel-requires-3 : tie.Need-enter-kernel-requires-3
-enter-kernel-requires-3 c κs = search needs
 
 enum-known-plan-4 : tie.Need-enum-known-plan-4
 enum-known-plan-4 c = search needs
@@ -51,33 +45,31 @@ same-length c = search needs
 returns : tie.Need-returns
 unfolding commit
 returns c =
-    rw (c .before .before .before .before .before .before .plan .given .1, ← c .before .before .before .without .ensures)
-    (entry (c .before .before .enter-kernel .ensures))
+    rw (c .before .before .before .before .before .before .before .plan4 .given .1)
+    (rw (c .before .perform .ensures, c .event-of .ensures), c .before .before .before .before .make-store .ensures)
+
+-- where the ways meet the kernel is entered
+meets :
+    (c : tie.At-match-came)
+    → enterOf (c .match .state) (c .match .pending) (c .match .number) (c .match .saved) (c .before .before .args .mem .now)
+    ≡ commit (c .before .before .args .plan) (c .before .before .args .self) (c .before .before .args .mem .now)
+unfolding commit
+meets c =
+    ⊎-elim
+    (λ w. rw (w .1 .given .1, w .4, w .5, w .6, w .7, ← w .3 .ensures))
+    (⊎-elim
+    (λ w. rw (w .1 .given .1, w .5, w .6, w .7, w .8, ← w .3 .ensures, ← w .4 .ensures))
+    (λ w. rw (w .1 .given .1, w .3, w .4, w .5, w .6)))
+    (c .match .came)
+
+enter-kernel-requires : tie.Need-enter-kernel-requires
+enter-kernel-requires c κs = search needs
 
 same-length-2 : tie.Need-same-length-2
 same-length-2 c = search needs
 
 returns-2 : tie.Need-returns-2
-unfolding commit
-returns-2 c =
-    rw (c .before .before .before .before .before .before .before .plan2 .given .1, ← c .before .before .before .before .before .note .ensures)
-    (rw (← c .before .before .before .fault-number .ensures) (entry (c .before .before .enter-kernel2 .ensures)))
-
-same-length-3 : tie.Need-same-length-3
-same-length-3 c = search needs
-
-returns-3 : tie.Need-returns-3
-unfolding commit
-returns-3 c = rw (c .before .before .before .before .before .plan3 .given .1) (entry (c .before .before .enter-kernel3 .ensures))
-
-same-length-4 : tie.Need-same-length-4
-same-length-4 c = search needs
-
-returns-4 : tie.Need-returns-4
-unfolding commit
-returns-4 c =
-    rw (c .before .before .before .before .before .before .before .plan4 .given .1)
-    (rw (c .before .perform .ensures, c .event-of .ensures), c .before .before .before .before .make-store .ensures)
+returns-2 c = rw (← meets (c .before .before .before .before)) (entry (c .before .before .enter-kernel .ensures))
 
 pub commit-spec : {M : Type 1} → statement M
 commit-spec =
@@ -85,22 +77,16 @@ commit-spec =
     (tie.spec
     enum-known-plan
     without-requires
-    enter-kernel-requires
     enum-known-plan-2
-    note-requires
     fault-number-requires
-    enter-kernel-requires-2
+    note-requires
     enum-known-plan-3
-    enter-kernel-requires-3
     enum-known-plan-4
     make-store-requires
     perform-requires
     event-of-requires
     same-length
     returns
+    enter-kernel-requires
     same-length-2
-    returns-2
-    same-length-3
-    returns-3
-    same-length-4
-    returns-4)
+    returns-2)

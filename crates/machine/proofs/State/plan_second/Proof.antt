@@ -1,28 +1,15 @@
 -- `machine::State::plan_second` meets its contract.
 -- Assumes nothing.
+use mathlib.Core.Logic.{⊎-elim}
+use mathlib.Core.Path.{_≡_}
 use borrow.Author.Needs.{needs}
-use borrow.Author.Tests.{not-false, not-true}
-use Rattle.machine.specs.Plan.{planSecond}
+use Rattle.decode.specs.Decode.{instructionOf}
+use Rattle.machine.specs.Plan.{planOperand, planSecond}
 use Rattle.machine.proofs.State.plan_second.Statement.{statement}
 use Rattle.machine.proofs.State.plan_second.Tie as tie
 
-decoded-requires : tie.Need-decoded-requires
-decoded-requires c κs = search needs
-
 plus-requires : tie.Need-plus-requires
 plus-requires c κs = search needs
-
-plan-operand-requires : tie.Need-plan-operand-requires
-plan-operand-requires c κs = search needs
-
-returns : tie.Need-returns
-unfolding planSecond
-returns c =
-    let short = not-true (c .before .before .before .before .before .before .args .shape .second) (c .before .before .before .if1 .taken) in
-    rw (short, ← c .before .before .decoded .ensures, ← c .before .plus .ensures) (c .plan-operand .ensures)
-
-plus-requires-2 : tie.Need-plus-requires-2
-plus-requires-2 c κs = search needs
 
 fetch-requires : tie.Need-fetch-requires
 fetch-requires c κs = search needs
@@ -36,53 +23,55 @@ enum-known-access c = search needs
 word-at-requires : tie.Need-word-at-requires
 word-at-requires c κs = search needs
 
-decoded-requires-2 : tie.Need-decoded-requires-2
-decoded-requires-2 c κs = search needs
-
-plus-requires-3 : tie.Need-plus-requires-3
-plus-requires-3 c κs = search needs
-
-plan-operand-requires-2 : tie.Need-plan-operand-requires-2
-plan-operand-requires-2 c κs = search needs
+plus-requires-2 : tie.Need-plus-requires-2
+plus-requires-2 c κs = search needs
 
 enum-known-access-2 : tie.Need-enum-known-access-2
 enum-known-access-2 c = search needs
 
-returns-2 : tie.Need-returns-2
+returns : tie.Need-returns
 unfolding planSecond
-returns-2 c =
-    let granted = c .before .before .before .before .before in
-    let fetched = granted .before .before .before .before in
-    let long = not-false (fetched .before .before .before .before .before .args .shape .second) (fetched .before .before .if1 .left) in
-    rw (long, ← fetched .before .plus2 .ensures, ← fetched .fetch .ensures, ← granted .before .before .set-tlb .ensures)
-    (rw (granted .access .given .1, ← c .before .before .before .word-at .ensures, ← c .before .before .decoded2 .ensures)
-    (rw (← c .before .plus3 .ensures) (c .plan-operand2 .ensures)))
-
-returns-3 : tie.Need-returns-3
-unfolding planSecond
-returns-3 c =
+returns c =
     let failed = c .before in
     let fetched = failed .before .before .before .before in
-    let long = not-false (fetched .before .before .before .before .before .args .shape .second) (fetched .before .before .if1 .left) in
-    rw (long, ← fetched .before .plus2 .ensures, ← fetched .fetch .ensures, ← failed .before .before .set-tlb .ensures)
+    rw (fetched .before .if1 .taken, ← fetched .before .before .plus .ensures, ← fetched .fetch .ensures, ← failed .before .before .set-tlb .ensures)
     (rw (failed .access2 .given .1))
+
+decoded-requires : tie.Need-decoded-requires
+decoded-requires c κs = search needs
+
+plan-operand-requires : tie.Need-plan-operand-requires
+plan-operand-requires c κs = search needs
+
+-- where the ways meet the operand is next, with or without a second word
+meets :
+    (c : tie.Joined1)
+    → planOperand (c .if1 .state) (c .before .before .before .args .mem .now) (instructionOf (c .before .before .before .args .shape) (c .if1 .second)) (c .if1 .following)
+    ≡ planSecond (c .before .before .before .args .self) (c .before .before .before .args .mem .now) (c .before .before .before .args .shape)
+unfolding planSecond
+meets c =
+    ⊎-elim
+    (λ w.
+    rw (w .0 .taken, w .9, w .10, w .11, ← c .before .plus .ensures, ← w .1 .ensures, ← w .3 .ensures)
+    (rw (w .5 .given .1, ← w .7 .ensures, ← w .8 .ensures)))
+    (λ w. rw (w .0 .left, w .1, w .2, w .3, ← c .before .plus .ensures))
+    (c .if1 .came)
+
+returns-2 : tie.Need-returns-2
+returns-2 c = rw (c .plan-operand .ensures, c .before .decoded .ensures) (meets (c .before .before))
 
 pub plan-second-spec : {M : Type 1} → statement M
 plan-second-spec =
     tie.close
     (tie.spec
-    decoded-requires
     plus-requires
-    plan-operand-requires
-    returns
-    plus-requires-2
     fetch-requires
     set-tlb-requires
     enum-known-access
     word-at-requires
-    decoded-requires-2
-    plus-requires-3
-    plan-operand-requires-2
+    plus-requires-2
     enum-known-access-2
-    returns-2
-    returns-3)
+    returns
+    decoded-requires
+    plan-operand-requires
+    returns-2)
