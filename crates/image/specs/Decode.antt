@@ -6,7 +6,7 @@ use Prim.Native.Nat.{suc, zero, ℕ, _*_, _+_}
 use lib.Dec.{eqb}
 use lib.ListN.{getD}
 use Rattle.machine.specs.Answers.{conditionNumber}
-use Rattle.machine.specs.Flag.{flagsFrom}
+use Rattle.status.specs.Flag.{flagsFrom}
 use Rattle.machine.specs.declared.Condition.{Condition}
 use Rattle.machine.specs.declared.Condition.the-variants.{Halted, Lost, Running}
 use Rattle.machine.specs.declared.State.{State}

@@ -25,10 +25,10 @@ use crate::layout::TLB;
 use crate::layout::USP;
 use crate::layout::VIOLATION;
 use machine::Condition;
-use machine::FaultRecord;
-use machine::Flags;
 use machine::Ports;
 use machine::State;
+use status::FaultRecord;
+use status::Flags;
 use word::word_from;
 
 // The TLB entry at an offset of some bytes, the upper byte first.

@@ -13,27 +13,28 @@ use Rattle.decode.specs.declared.First.{First}
 use Rattle.decode.specs.declared.First.the-variants.{Defined, Undefined}
 use Rattle.decode.specs.declared.Instruction.{Instruction}
 use Rattle.decode.specs.declared.Shape.{Shape}
-use Rattle.machine.specs.Answers.{notPermitted}
+use Rattle.plan.specs.End.{notPermitted}
 use Rattle.machine.specs.Enter.{enterOf, entered, lost}
 use Rattle.machine.specs.Execute.{eventOf}
 use Rattle.machine.specs.Fault.{noted}
 use Rattle.machine.specs.Flag.{flagOf}
-use Rattle.machine.specs.Need.{addressOf, needOf, valueStored}
+use Rattle.plan.specs.Need.{addressOf, needOf, valueStored}
 use Rattle.machine.specs.Plan.{after, fetched, interrupted, permitted, planFetch, planFirst, planOf, planOperand, planSecond, planTransfer, planned, throughAccess, translates}
 use Rattle.machine.specs.Register.{regOf, spOf}
 use Rattle.machine.specs.State.{withPending, withTlb}
-use Rattle.machine.specs.Step.{commit, stepOf, without}
-use Rattle.machine.specs.Transfer.{byAccess, loaded, readSecond, transferAt, transferOf}
-use Rattle.machine.specs.declared.Need.{Need}
-use Rattle.machine.specs.declared.Need.the-variants.{ReadByte, ReadTwo, ReadWord, Value, WriteByte, WriteWord}
-use Rattle.machine.specs.declared.Operation.{Operation}
-use Rattle.machine.specs.declared.Plan.{Plan}
-use Rattle.machine.specs.declared.Plan.the-variants.{Interrupt, Perform, Trap, Violation}
+use Rattle.machine.specs.Step.{commit, stepOf}
+use Rattle.status.specs.Lines.{without}
+use Rattle.plan.specs.Transfer.{byAccess, loaded, readSecond, transferAt, transferOf}
+use Rattle.plan.specs.declared.Need.{Need}
+use Rattle.plan.specs.declared.Need.the-variants.{ReadByte, ReadTwo, ReadWord, Value, WriteByte, WriteWord}
+use Rattle.plan.specs.declared.Operation.{Operation}
+use Rattle.plan.specs.declared.Plan.{Plan}
+use Rattle.plan.specs.declared.Plan.the-variants.{Interrupt, Perform, Trap, Violation}
 use Rattle.machine.specs.declared.Planned.{Planned}
 use Rattle.machine.specs.declared.State.{State}
-use Rattle.machine.specs.declared.Transfer.{Transfer}
-use Rattle.machine.specs.declared.Transfer.the-variants as transfer
-use Rattle.machine.specs.declared.Transferred.{Transferred}
+use Rattle.plan.specs.declared.Transfer.{Transfer}
+use Rattle.plan.specs.declared.Transfer.the-variants as transfer
+use Rattle.plan.specs.declared.Transferred.{Transferred}
 use Rattle.mmu.specs.Access.{byteAccess, wordAccess}
 use Rattle.mmu.specs.Answers.{faultNumber}
 use Rattle.mmu.specs.Laws.{AccessCases, access-keeps, word-cases}

@@ -21,27 +21,29 @@ use Rattle.machine.specs.Enter.{enterOf}
 use Rattle.machine.specs.Execute.{afterOperation, eventOf}
 use Rattle.machine.specs.Fault.{noted}
 use Rattle.machine.specs.Flag.{flagOf}
-use Rattle.machine.specs.Need.{addressOf, needOf, valueStored}
+use Rattle.plan.specs.Need.{addressOf, needOf, valueStored}
 use Rattle.machine.specs.Kept.{stored-long, transfer-keeps}
 use Rattle.machine.specs.PlanLaws.{Ways, end-by, plan-by}
-use Rattle.machine.specs.Plan.{permitted, permittedIn, planOf, planOperand, planTransfer, translates}
+use Rattle.machine.specs.Plan.{permitted, planOf, planOperand, planTransfer, translates}
+use Rattle.status.specs.Flag.{permittedIn}
 use Rattle.machine.specs.Register.{regOf, spOf, sspAfter, sspWith, withReg, withSp}
 use Rattle.machine.specs.State.{withPc, withTlb}
-use Rattle.machine.specs.Step.{commit, stepOf, without}
+use Rattle.machine.specs.Step.{commit, stepOf}
+use Rattle.status.specs.Lines.{without}
 use Rattle.machine.specs.StepLaws.{body-by, enter-by}
-use Rattle.machine.specs.Transfer.{readSecond, transferAt, transferOf}
+use Rattle.plan.specs.Transfer.{readSecond, transferAt, transferOf}
 use Rattle.machine.specs.declared.Condition.{Condition}
 use Rattle.machine.specs.declared.Event.the-variants as event
-use Rattle.machine.specs.declared.Need.{Need}
-use Rattle.machine.specs.declared.Need.the-variants.{ReadByte, ReadTwo, ReadWord, Value, WriteByte, WriteWord}
-use Rattle.machine.specs.declared.Operation.{Operation}
-use Rattle.machine.specs.declared.Plan.{Plan}
-use Rattle.machine.specs.declared.Plan.the-variants.{Interrupt, Perform, Trap, Violation}
+use Rattle.plan.specs.declared.Need.{Need}
+use Rattle.plan.specs.declared.Need.the-variants.{ReadByte, ReadTwo, ReadWord, Value, WriteByte, WriteWord}
+use Rattle.plan.specs.declared.Operation.{Operation}
+use Rattle.plan.specs.declared.Plan.{Plan}
+use Rattle.plan.specs.declared.Plan.the-variants.{Interrupt, Perform, Trap, Violation}
 use Rattle.machine.specs.declared.Planned.{Planned}
 use Rattle.machine.specs.declared.State.{State}
-use Rattle.machine.specs.declared.Transfer.{Transfer}
-use Rattle.machine.specs.declared.Transfer.the-variants as transfer
-use Rattle.machine.specs.declared.Transferred.{Transferred}
+use Rattle.plan.specs.declared.Transfer.{Transfer}
+use Rattle.plan.specs.declared.Transfer.the-variants as transfer
+use Rattle.plan.specs.declared.Transferred.{Transferred}
 use Rattle.mmu.specs.Access.{byteAccess, wordAccess}
 use Rattle.mmu.specs.Answers.{faultNumber}
 use Rattle.mmu.specs.Entry.{marked}

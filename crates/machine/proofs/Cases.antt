@@ -1,12 +1,10 @@
--- Tests of a range, from what the arms of a match know; and bounds of small numbers.
+-- Tests of a range, from what the arms of a match know.
 -- Assumes nothing.
-use mathlib.Core.Bool.{Bool, and-false, false, true, _&&_}
+use mathlib.Core.Bool.{and-false, false, true, _&&_}
 use mathlib.Core.Path.{_≡_}
 use Prim.Native.Nat.{suc, ℕ, _<_, _≤_}
 use native.Mathlib.Nat.{le-of-suc-le-suc}
-use native.Mathlib.Omega.{arith}
 use lib.Dec.{leb}
-use mir.Val.{boolByte}
 use borrow.Author.Tests.{le-leb, lt-leb}
 
 module _ (lo hi n : ℕ) where
@@ -18,7 +16,3 @@ module _ (lo hi n : ℕ) where
 
   pub over : suc hi ≤ n → (leb lo n && leb n hi) ≡ false
   over q = rw (lt-leb n hi q) (and-false (leb lo n))
-
-pub one-le : (b : Bool) → boolByte b ≤ 1
-one-le true = omega arith
-one-le false = omega arith

@@ -11,7 +11,7 @@ use Rattle.word.specs.Alu.{shlOf}
 use Rattle.word.specs.declared.alu.Alu.{Alu}
 use Rattle.machine.specs.Execute.{aluOf, bodyOf, withResult}
 use Rattle.machine.specs.Register.{withReg}
-use Rattle.machine.specs.declared.Operation.{Operation}
+use Rattle.plan.specs.declared.Operation.{Operation}
 use Rattle.machine.specs.declared.State.{State}
 
 -- a number that is none of some others, the last of them first

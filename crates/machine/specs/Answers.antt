@@ -14,19 +14,6 @@ conditionNumber condition.Running = 0
 conditionNumber condition.Halted = 1
 conditionNumber condition.Lost = 2
 
--- "undefined (14), privilege (13)", "zero divisor (12)", "SVC is 15."
-abbrev pub zeroDivisor : ℕ
-zeroDivisor = 12
-
-abbrev pub notPermitted : ℕ
-notPermitted = 13
-
-abbrev pub undefinedWord : ℕ
-undefinedWord = 14
-
-abbrev pub serviceCall : ℕ
-serviceCall = 15
-
 -- the states of a step: the instruction's own; "entry costs 12 states in place of the instruction's (H)"; "HALT 5"; "one step, 0 states"
 abbrev pub statesOf : Event → ℕ
 statesOf (event.Executed n) = n

@@ -1,18 +1,18 @@
 -- Kernel entry. Document 01, "Faults in order": "Entry copies FLAG, sets E=0 and P=1, pushes PC and the copy on SSP, loads PC from
 -- FFE0h + 2 × number."
 -- Assumes nothing.
-use mathlib.Core.Bool.{cond, false, true}
+use mathlib.Core.Bool.{cond}
 use mathlib.Core.List.{List}
 use Prim.Native.Nat.{ℕ, _%_, _*_}
 use lib.Dec.{eqb}
 use Rattle.mmu.specs.Memory.{storeWord, wordAt}
+use Rattle.status.specs.Flag.{kernelFlags}
 use Rattle.word.specs.Word.{minus, plus}
 use Rattle.machine.specs.Flag.{flagOf}
 use Rattle.machine.specs.State.{withCondition, withPc, withFlags, withPending, withStack}
 use Rattle.machine.specs.declared.Condition.the-variants as condition
 use Rattle.machine.specs.declared.Event.{Event}
 use Rattle.machine.specs.declared.Event.the-variants.{Entered, Lost}
-use Rattle.machine.specs.declared.Flags.{Flags}
 use Rattle.machine.specs.declared.State.{State}
 
 -- a step: the next state, the memory after it and what it did
@@ -32,10 +32,6 @@ vectorOf number = plus vectors (2 * number)
 -- memory after the pushes: PC at SSP-2, FLAG at SSP-4
 unfoldable pub pushed : ℕ → ℕ → ℕ → List ℕ → List ℕ
 pushed ssp flag saved m = storeWord (storeWord m (minus ssp 2) saved) (minus ssp 4) flag
-
--- "sets E=0 and P=1"
-abbrev pub kernelFlags : Flags → Flags
-kernelFlags f = record { e = false; p = true; i = f .i; v = f .v; c = f .c; s = f .s; z = f .z }
 
 -- the state in the handler, whose address is `handler`
 abbrev pub inKernel : State → ℕ → State

@@ -14,7 +14,7 @@ use Rattle.machine.specs.State.{withArithmetic, withCondition, withPc, w
 use Rattle.machine.specs.declared.Condition.the-variants as condition
 use Rattle.machine.specs.declared.Event.{Event}
 use Rattle.machine.specs.declared.Event.the-variants as event
-use Rattle.machine.specs.declared.Operation.{Operation}
+use Rattle.plan.specs.declared.Operation.{Operation}
 use Rattle.machine.specs.declared.State.{State}
 
 -- the result and the flags of an instruction from ADD to SHRL but CMP, which has those of SUB

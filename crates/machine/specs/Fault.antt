@@ -1,20 +1,10 @@
--- What a fault of an access notes. Document 01, "Faults in order": "Fault 11 stores its address and adds its cause bit; 10 stores the page."
+-- What a fault of an access notes in the state.
 -- Assumes nothing.
 use Prim.Native.Nat.{ℕ}
-use lib.Bits.{bitOr}
-use Rattle.mmu.specs.Answers.{causeBit}
 use Rattle.mmu.specs.declared.Fault.{Fault}
-use Rattle.mmu.specs.declared.Fault.the-variants.{Missing, Odd, Refused}
-use Rattle.word.specs.Word.{upper}
+use Rattle.status.specs.Fault.{recordAfter}
 use Rattle.machine.specs.State.{withFault}
-use Rattle.machine.specs.declared.FaultRecord.{FaultRecord}
 use Rattle.machine.specs.declared.State.{State}
-
--- the record after a fault of an access to `a`
-abbrev pub recordAfter : Fault → ℕ → FaultRecord → FaultRecord
-recordAfter Odd a r = record { violation = a; cause = bitOr (r .cause) (causeBit Odd); missed = r .missed }
-recordAfter Missing a r = record { violation = r .violation; cause = r .cause; missed = upper a }
-recordAfter Refused a r = record { violation = a; cause = bitOr (r .cause) (causeBit Refused); missed = r .missed }
 
 abbrev pub noted : Fault → ℕ → State → State
 noted why a st = withFault st (recordAfter why a (st .fault))

@@ -4,7 +4,6 @@ pub mod Execute
 pub mod Fault
 pub mod Flag
 pub mod Kept
-pub mod Need
 pub mod Plan
 pub mod PlanLaws
 pub mod Ports
@@ -15,4 +14,3 @@ pub mod State
 pub mod Step
 pub mod StepLaws
 pub mod Through
-pub mod Transfer

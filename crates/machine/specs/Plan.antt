@@ -22,26 +22,23 @@ use Rattle.mmu.specs.declared.Access.{Access}
 use Rattle.mmu.specs.declared.Access.the-variants as access
 use Rattle.mmu.specs.declared.Accessed.{Accessed}
 use Rattle.mmu.specs.declared.Right.the-variants.{Execute}
-use Rattle.word.specs.Alu.{places}
-use Rattle.word.specs.Jump.{conditionOf}
+use Rattle.plan.specs.End.{endOf, notPermitted, undefinedWord}
+use Rattle.plan.specs.Need.{addressOf, needOf, valueStored}
+use Rattle.plan.specs.Transfer.{fetchOf, transferOf}
+use Rattle.status.specs.Flag.{permittedIn, takenOn}
 use Rattle.word.specs.Word.{plus}
-use Rattle.word.specs.declared.jump.Test.{Test}
-use Rattle.word.specs.declared.jump.Test.the-variants as test
-use Rattle.machine.specs.Answers.{notPermitted, serviceCall, undefinedWord, zeroDivisor}
 use Rattle.machine.specs.Flag.{flagOf}
-use Rattle.machine.specs.Need.{addressOf, needOf, valueStored}
 use Rattle.machine.specs.Register.{regOf, spOf}
 use Rattle.machine.specs.State.{withTlb}
-use Rattle.machine.specs.Transfer.{transferOf}
-use Rattle.machine.specs.declared.Need.{Need}
-use Rattle.machine.specs.declared.Plan.{Plan}
-use Rattle.machine.specs.declared.Plan.the-variants.{Interrupt, Perform, Trap, Violation}
+use Rattle.plan.specs.declared.Need.{Need}
+use Rattle.plan.specs.declared.Plan.{Plan}
+use Rattle.plan.specs.declared.Plan.the-variants.{Interrupt, Perform, Trap, Violation}
 use Rattle.machine.specs.declared.Planned.{Planned}
-use Rattle.machine.specs.declared.Ready.{Ready}
+use Rattle.plan.specs.declared.Ready.{Ready}
 use Rattle.machine.specs.declared.State.{State}
-use Rattle.machine.specs.declared.Transfer.{Transfer}
-use Rattle.machine.specs.declared.Transfer.the-variants as transfer
-use Rattle.machine.specs.declared.Transferred.{Transferred}
+use Rattle.plan.specs.declared.Transfer.{Transfer}
+use Rattle.plan.specs.declared.Transfer.the-variants as transfer
+use Rattle.plan.specs.declared.Transferred.{Transferred}
 
 abbrev pub planned : Plan → State → Planned
 planned p st = record { plan = p; state = st }
@@ -57,7 +54,7 @@ throughAccess (access.Fails why) st a goOn = planned (Violation why a) st
 
 -- the fetch of a word
 abbrev pub fetched : State → ℕ → Accessed
-fetched st a = wordAccess (translates st) (st .tlb) Execute a
+fetched st a = fetchOf (translates st) (st .tlb) a
 
 -- the state after an access
 abbrev pub after : State → Accessed → State
@@ -76,43 +73,9 @@ interrupted st = interruptIn (st .flags .e) (st .pending)
 abbrev pub lowestLine : ℕ → ℕ
 lowestLine lines = trailingZeros 16 lines
 
--- ---- the end of the plan
-
-abbrev pub holds : Test → Bool
-holds test.Holds = true
-holds test.Fails = false
-holds test.Undefined = false
-
 -- a jump is taken, by the condition of this number
 abbrev pub taken : State → ℕ → Bool
-taken st rd = holds (conditionOf rd (st .flags .v) (st .flags .c) (st .flags .s) (st .flags .z))
-
--- it goes ahead, with PC after it and its states
-abbrev pub performs : Ready → ℕ → ℕ → Plan
-performs x pc states =
-    Perform
-    (record {
-      code = x .code;
-      rd = x .rd;
-      held = x .held;
-      source = x .source;
-      port = x .address;
-      pc = pc;
-      states = states;
-      store = x .store;
-    })
-
--- The last tests. `pc` is the instruction's own, and `jumps` says whether a jump is taken. "Jump 5 taken, 4 not." "RETI takes FLAG, then PC".
--- "SVC is 15", with the following PC. "zero divisor (12)". "Shift by n: ... plus n."
-unfoldable pub endOf : Flow → Ready → ℕ → Bool → Plan
-endOf flow.Next x pc jumps = performs x (x .following) (x .cost)
-endOf flow.Jump x pc jumps = cond jumps (performs x (x .address) (x .cost + 1)) (performs x (x .following) (x .cost))
-endOf flow.Call x pc jumps = performs x (x .address) (x .cost)
-endOf flow.Return x pc jumps = performs x (x .source) (x .cost)
-endOf flow.Resume x pc jumps = performs x (x .second) (x .cost)
-endOf flow.Trap x pc jumps = Trap serviceCall (x .following)
-endOf flow.Divide x pc jumps = cond (eqb (x .source) 0) (Trap zeroDivisor pc) (performs x (x .following) (x .cost))
-endOf flow.Shift x pc jumps = performs x (x .following) (x .cost + places (x .source))
+taken st rd = takenOn rd (st .flags .v) (st .flags .c) (st .flags .s) (st .flags .z)
 
 -- ---- the stages
 
@@ -153,12 +116,6 @@ planSecond st m shape =
     throughAccess (x .access) (after st x) a
     (λ (at : ℕ). planOperand (after st x) m (instructionOf shape (wordAt m at)) (plus (st .pc) 4)))
     (planOperand st m (instructionOf shape 0) (plus (st .pc) 2))
-
--- "RETI and HALT need P=1; IN and OUT need P=1 or I=1 (H)."
-abbrev pub permittedIn : Privilege → Bool → Bool → Bool
-permittedIn Anyone p i = true
-permittedIn Ports p i = p || i
-permittedIn Kernel p i = p
 
 abbrev pub permitted : State → Privilege → Bool
 permitted st privilege = permittedIn privilege (st .flags .p) (st .flags .i)

@@ -12,12 +12,12 @@ use Rattle.decode.specs.declared.First.the-variants.{Defined, Undefined}
 use Rattle.decode.specs.declared.Flow.{Flow}
 use Rattle.decode.specs.declared.Flow.the-variants as flow
 use Rattle.decode.specs.declared.Shape.{Shape}
-use Rattle.machine.specs.Answers.{notPermitted, undefinedWord}
-use Rattle.machine.specs.Plan.{after, endOf, fetched, interrupted, lowestLine, performs, permitted, planFetch, planFirst, planOf, planOperand, planSecond, planned, throughAccess}
-use Rattle.machine.specs.declared.Plan.{Plan}
-use Rattle.machine.specs.declared.Plan.the-variants.{Interrupt, Trap, Violation}
+use Rattle.plan.specs.End.{endOf, notPermitted, performs, undefinedWord}
+use Rattle.machine.specs.Plan.{after, fetched, interrupted, lowestLine, permitted, planFetch, planFirst, planOf, planOperand, planSecond, planned, throughAccess}
+use Rattle.plan.specs.declared.Plan.{Plan}
+use Rattle.plan.specs.declared.Plan.the-variants.{Interrupt, Trap, Violation}
 use Rattle.machine.specs.declared.Planned.{Planned}
-use Rattle.machine.specs.declared.Ready.{Ready}
+use Rattle.plan.specs.declared.Ready.{Ready}
 use Rattle.machine.specs.declared.State.{State}
 use Rattle.mmu.specs.Memory.{wordAt}
 use Rattle.mmu.specs.declared.Access.{Access}

@@ -3,9 +3,10 @@
 use mathlib.Core.Bool.{Bool}
 use mathlib.Core.List.{List}
 use Prim.Native.Nat.{ℕ}
+use Rattle.status.specs.Flag.{flagsWith}
 use Rattle.machine.specs.declared.Condition.{Condition}
-use Rattle.machine.specs.declared.FaultRecord.{FaultRecord}
-use Rattle.machine.specs.declared.Flags.{Flags}
+use Rattle.status.specs.declared.FaultRecord.{FaultRecord}
+use Rattle.status.specs.declared.Flags.{Flags}
 use Rattle.machine.specs.declared.Ports.{Ports}
 use Rattle.machine.specs.declared.State.{State}
 
@@ -53,8 +54,7 @@ withTlb s x =
 
 -- V, C, S and Z
 abbrev pub withArithmetic : State → Bool → Bool → Bool → Bool → State
-withArithmetic st v c s z =
-    withFlags st (record { e = st .flags .e; p = st .flags .p; i = st .flags .i; v = v; c = c; s = s; z = z })
+withArithmetic st v c s z = withFlags st (flagsWith (st .flags) v c s z)
 
 abbrev pub withOutput : State → ℕ → State
 withOutput st byte = withPorts st (record { input = st .ports .input; output = byte })

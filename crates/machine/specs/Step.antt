@@ -1,22 +1,19 @@
 -- A step. Document 01, "Faults in order".
 -- Assumes nothing.
 use mathlib.Core.List.{List}
-use Prim.Native.Nat.{ℕ, _-_, _^_}
+use Prim.Native.Nat.{ℕ}
 use Rattle.mmu.specs.Answers.{faultNumber}
 use Rattle.mmu.specs.Memory.{stored}
+use Rattle.status.specs.Lines.{without}
 use Rattle.machine.specs.Enter.{Outcome, enterOf}
 use Rattle.machine.specs.Execute.{afterOperation, eventOf}
 use Rattle.machine.specs.Fault.{noted}
 use Rattle.machine.specs.Plan.{planOf}
-use Rattle.machine.specs.declared.Plan.{Plan}
-use Rattle.machine.specs.declared.Plan.the-variants.{Interrupt, Perform, Trap, Violation}
+use Rattle.plan.specs.declared.Plan.{Plan}
+use Rattle.plan.specs.declared.Plan.the-variants.{Interrupt, Perform, Trap, Violation}
 use Rattle.machine.specs.declared.Planned.{Planned}
 use Rattle.machine.specs.declared.State.{State}
 use Rattle.machine.specs.declared.Stepped.{Stepped}
-
--- a line is cleared as it is entered
-abbrev pub without : ℕ → ℕ → ℕ
-without lines line = lines - 2 ^ line
 
 -- The step that carries out a plan, in the state after the plan's accesses. "The saved PC is the instruction's own for 10-14, the following
 -- one for SVC, and for an interrupt that of the instruction not yet begun". "An interrupt's line stays pending (H)", where the machine is

@@ -23,7 +23,7 @@ use Rattle.machine.specs.declared.Condition.{Condition}
 use Rattle.machine.specs.declared.Condition.the-variants as condition
 use Rattle.machine.specs.declared.Event.{Event}
 use Rattle.machine.specs.declared.Event.the-variants as event
-use Rattle.machine.specs.declared.Operation.{Operation}
+use Rattle.plan.specs.declared.Operation.{Operation}
 use Rattle.machine.specs.declared.State.{State}
 
 -- ---- an instruction

@@ -5,7 +5,6 @@ ghost use Rattle.machine.specs.Enter as def;
 ghost use Rattle.machine.specs.State.{withPending};
 use crate::Condition;
 use crate::Event;
-use crate::Flags;
 use crate::State;
 use crate::Stepped;
 use mmu::store_word;
@@ -23,23 +22,6 @@ fn push_both(mem: &mut [u8], ssp: u16, flag: u16, saved: u16)
 {
     store_word(mem, minus(ssp, 2), saved);
     store_word(mem, minus(ssp, 4), flag);
-}
-
-impl Flags {
-    // E=0 and P=1.
-    fn in_kernel(self) -> Flags
-        ensures { λ r. ⌜ r ≡ def.kernelFlags self ⌝ }
-    {
-        Flags {
-            e: false,
-            p: true,
-            i: self.i,
-            v: self.v,
-            c: self.c,
-            s: self.s,
-            z: self.z,
-        }
-    }
 }
 
 impl State {

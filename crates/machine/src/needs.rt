@@ -1,41 +1,17 @@
 // Operands: the address that one names, and the data access that an instruction needs.
 ghost use mathlib.Core.Path.{_≡_};
 ghost use Rattle.machine.specs.Flag.{flagOf};
-ghost use Rattle.machine.specs.Need as def;
 ghost use Rattle.machine.specs.Register.{regOf, spOf};
-use crate::Need;
+ghost use Rattle.plan.specs.Need as def;
 use crate::State;
 use crate::register::FP;
 use decode::DataAccess;
 use decode::Operand;
-use decode::code::CALL;
+use plan::Need;
+use plan::store_need;
 use word::minus;
 use word::plus;
 use word::to_word;
-
-// The place of ST.
-fn store_need(a: u16, operand: Operand) -> Need
-    ensures { λ r. ⌜ r ≡ def.storeNeed a operand ⌝ }
-{
-    match operand {
-        Operand::Direct(_) => Need::WriteWord(a),
-        Operand::Indexed(_, _) => Need::WriteWord(a),
-        Operand::Immediate(_) => Need::WriteWord(a),
-        Operand::Frame(_) => Need::WriteWord(a),
-        Operand::Register(_) => Need::WriteWord(a),
-        Operand::Short(_) => Need::WriteWord(a),
-        Operand::Indirect(_) => Need::WriteWord(a),
-        Operand::ByteIndirect(_) => Need::WriteByte(a),
-        Operand::Nothing => Need::WriteWord(a),
-    }
-}
-
-// What an instruction stores.
-pub fn value_stored(code: u8, held: u16, following: u16) -> u16
-    ensures { λ r. ⌜ r ≡ def.valueStored code held following ⌝ }
-{
-    if code == CALL { following } else { held }
-}
 
 impl State {
     // The address that an operand names.

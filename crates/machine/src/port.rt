@@ -2,7 +2,6 @@
 ghost use mathlib.Core.Path.{_≡_};
 ghost use Prim.Native.Nat.{_≤_};
 ghost use Rattle.machine.specs.Ports as def;
-use crate::FaultRecord;
 use crate::Ports;
 use crate::State;
 
@@ -86,11 +85,7 @@ impl State {
     {
         if port == CAUSE {
             let old = self.fault;
-            let fault = FaultRecord {
-                violation: old.violation,
-                cause: 0,
-                missed: old.missed,
-            };
+            let fault = old.cleared();
             self.fault = fault;
             return self;
         }

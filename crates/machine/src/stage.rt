@@ -4,53 +4,23 @@ ghost use lib.ListN.{length};
 ghost use Rattle.decode.specs.Entry.{tableOf};
 ghost use Rattle.machine.specs.Plan as def;
 ghost use Rattle.machine.specs.State.{withTlb};
-use crate::Operation;
-use crate::Plan;
 use crate::Planned;
-use crate::Ready;
 use crate::State;
-use crate::Transfer;
-use crate::needs::value_stored;
-use crate::transferring::transfer_for;
 use decode::ENTRIES;
 use decode::First;
-use decode::Flow;
 use decode::Instruction;
-use decode::Privilege;
 use decode::Shape;
 use mmu::Access;
 use mmu::Accessed;
-use mmu::Right;
-use mmu::word_access;
 use mmu::word_at;
-use word::Test;
+use plan::NOT_PERMITTED;
+use plan::Plan;
+use plan::Ready;
+use plan::Transfer;
+use plan::UNDEFINED;
+use plan::transfer_for;
+use plan::value_stored;
 use word::plus;
-
-// The numbers of the faults that are no access's, and of SVC.
-const ZERO_DIVISOR: u8 = 12;
-
-const NOT_PERMITTED: u8 = 13;
-
-const UNDEFINED: u8 = 14;
-
-const SERVICE_CALL: u8 = 15;
-
-// The instruction goes ahead.
-fn performs(x: Ready, pc: u16, states: u16) -> Plan
-    ensures { λ r. ⌜ r ≡ def.performs x pc states ⌝ }
-{
-    let store = x.store;
-    Plan::Perform(Operation {
-        code: x.code,
-        rd: x.rd,
-        held: x.held,
-        source: x.source,
-        port: x.address,
-        pc,
-        states,
-        store,
-    })
-}
 
 impl State {
     pub fn set_tlb(mut self, tlb: [u32; 8]) -> State
@@ -74,47 +44,6 @@ impl State {
         self.flags.e & (self.pending != 0)
     }
 
-    // A jump is taken, by the condition of this number.
-    fn taken(self, rd: u8) -> bool
-        ensures { λ r. ⌜ r ≡ def.taken self rd ⌝ }
-    {
-        let f = self.flags;
-        match word::condition(rd, f.v, f.c, f.s, f.z) {
-            Test::Holds => true,
-            Test::Fails => false,
-            Test::Undefined => false,
-        }
-    }
-
-    // The last tests.
-    fn end(self, flow: Flow, x: Ready) -> Plan
-        ensures { λ r. ⌜ r ≡ def.endOf flow x (self .pc) (def.taken self (x .rd)) ⌝ }
-    {
-        let cost = x.cost as u16;
-        match flow {
-            Flow::Next => performs(x, x.following, cost),
-            Flow::Jump => {
-                if self.taken(x.rd) {
-                    performs(x, x.address, cost + 1)
-                } else {
-                    performs(x, x.following, cost)
-                }
-            }
-            Flow::Call => performs(x, x.address, cost),
-            Flow::Return => performs(x, x.source, cost),
-            Flow::Resume => performs(x, x.second, cost),
-            Flow::Trap => Plan::Trap(SERVICE_CALL, x.following),
-            Flow::Divide => {
-                if x.source == 0 {
-                    Plan::Trap(ZERO_DIVISOR, self.pc)
-                } else {
-                    performs(x, x.following, cost)
-                }
-            }
-            Flow::Shift => performs(x, x.following, cost + x.source % 16),
-        }
-    }
-
     // The transfer was done, or the kernel is entered.
     fn plan_transfer(
         self,
@@ -127,8 +56,10 @@ impl State {
         ensures { λ r. ⌜ r ≡ def.planTransfer transfer self ins held address following ⌝ }
     {
         let flow = ins.flow;
+        let flags = self.flags;
+        let jumps = flags.taken(ins.rd);
         match transfer {
-            Transfer::Done(source, second, store) => self.end(
+            Transfer::Done(source, second, store) => plan::end(
                 flow,
                 Ready {
                     code: ins.code,
@@ -141,6 +72,8 @@ impl State {
                     second,
                     store,
                 },
+                self.pc,
+                jumps,
             ),
             Transfer::Fails(why, a) => Plan::Violation(why, a),
         }
@@ -172,7 +105,7 @@ impl State {
         ensures { λ r. ⌜ r ≡ def.fetched self a ⌝ }
     {
         let tlb = self.tlb;
-        word_access(self.translates(), tlb, Right::Execute, a)
+        plan::fetch(self.translates(), tlb, a)
     }
 
     // The second word, if there is one, and on.
@@ -206,17 +139,6 @@ impl State {
         state.plan_operand(mem, ins, following)
     }
 
-    // Whether an instruction may be carried out in this mode.
-    fn permitted(self, privilege: Privilege) -> bool
-        ensures { λ r. ⌜ r ≡ def.permitted self privilege ⌝ }
-    {
-        match privilege {
-            Privilege::Anyone => true,
-            Privilege::Ports => self.flags.p | self.flags.i,
-            Privilege::Kernel => self.flags.p,
-        }
-    }
-
     // Undefined instructions and privilege, and on.
     fn plan_first(self, mem: &[u8], first: First) -> Planned
         requires { ⌜ length (now mem) ≡ 65536 ⌝ }
@@ -229,7 +151,8 @@ impl State {
             },
             First::Defined(shape) => {
                 let privilege = shape.privilege;
-                if self.permitted(privilege) {
+                let flags = self.flags;
+                if flags.permits(privilege) {
                     return self.plan_second(mem, shape);
                 }
                 Planned {

@@ -3,27 +3,14 @@ ghost use mathlib.Core.Path.{_≡_};
 ghost use lib.ListN.{length};
 ghost use Rattle.decode.specs.Entry.{tableOf};
 ghost use Rattle.machine.specs.Step as def;
-use crate::Plan;
 use crate::State;
 use crate::Stepped;
 use crate::execution::event_of;
-use crate::record::fault_number;
 use decode::ENTRIES;
 use mmu::make_store;
-
-// The pending lines without one of them.
-fn without(lines: u16, line: u8) -> u16
-    ensures { λ r. ⌜ r ≡ def.without lines line ⌝ }
-{
-    if 16 <= line {
-        return 0;
-    }
-    let bit = 1 << line;
-    if lines < bit {
-        return 0;
-    }
-    lines - bit
-}
+use plan::Plan;
+use status::fault_number;
+use status::without;
 
 impl State {
     // The step that carries out a plan.

@@ -16,21 +16,22 @@ use Rattle.decode.specs.declared.Instruction.{Instruction}
 use Rattle.decode.specs.declared.Operand.{Operand}
 use Rattle.machine.specs.Flag.{flagOf}
 use Rattle.machine.specs.Kept.{fetch-keeps, withMark}
-use Rattle.machine.specs.Need.{addressOf, loadNeed, needOf, storeNeed, valueStored}
-use Rattle.machine.specs.Plan.{endOf, performs, planOf, planOperand, planTransfer, translates}
+use Rattle.plan.specs.Need.{addressOf, loadNeed, needOf, storeNeed, valueStored}
+use Rattle.machine.specs.Plan.{planOf, planOperand, planTransfer, translates}
+use Rattle.plan.specs.End.{endOf, performs}
 use Rattle.machine.specs.PlanLaws.{plan-by}
 use Rattle.machine.specs.Register.{regIn, regOf, spIn, spOf}
-use Rattle.machine.specs.Transfer.{readSecond, transferAt, transferOf}
-use Rattle.machine.specs.declared.Need.{Need}
-use Rattle.machine.specs.declared.Need.the-variants.{ReadByte, ReadTwo, ReadWord, Value, WriteByte, WriteWord}
-use Rattle.machine.specs.declared.Operation.{Operation}
-use Rattle.machine.specs.declared.Plan.{Plan}
-use Rattle.machine.specs.declared.Plan.the-variants.{Interrupt, Perform, Trap, Violation}
+use Rattle.plan.specs.Transfer.{readSecond, transferAt, transferOf}
+use Rattle.plan.specs.declared.Need.{Need}
+use Rattle.plan.specs.declared.Need.the-variants.{ReadByte, ReadTwo, ReadWord, Value, WriteByte, WriteWord}
+use Rattle.plan.specs.declared.Operation.{Operation}
+use Rattle.plan.specs.declared.Plan.{Plan}
+use Rattle.plan.specs.declared.Plan.the-variants.{Interrupt, Perform, Trap, Violation}
 use Rattle.machine.specs.declared.Planned.{Planned}
-use Rattle.machine.specs.declared.Ready.{Ready}
+use Rattle.plan.specs.declared.Ready.{Ready}
 use Rattle.machine.specs.declared.State.{State}
-use Rattle.machine.specs.declared.Transfer.{Transfer}
-use Rattle.machine.specs.declared.Transfer.the-variants as transfer
+use Rattle.plan.specs.declared.Transfer.{Transfer}
+use Rattle.plan.specs.declared.Transfer.the-variants as transfer
 use Rattle.mmu.specs.Access.{byteAccess, wordAccess}
 use Rattle.mmu.specs.Entry.{marked}
 use Rattle.mmu.specs.Marks.{Like, marked-like}

@@ -13,12 +13,12 @@ use Rattle.image.specs.Image.{entryBytes, imageOf}
 use Rattle.image.specs.Layout.{imageSize, tlbAt}
 use Rattle.image.specs.Valid.{allZeros, flagGood, goodImage, pendingGood, zerosGood}
 use Rattle.machine.specs.Answers.{conditionNumber}
-use Rattle.machine.specs.Flag.{flagWord, wordOf}
+use Rattle.status.specs.Flag.{flagWord, wordOf}
 use Rattle.machine.specs.Spelled.{spelled, whole}
 use Rattle.machine.specs.State.{withRegs, withTlb}
 use Rattle.machine.specs.declared.Condition.{Condition}
 use Rattle.machine.specs.declared.Condition.the-variants.{Halted, Lost, Running}
-use Rattle.machine.specs.declared.Flags.{Flags}
+use Rattle.status.specs.declared.Flags.{Flags}
 use Rattle.machine.specs.declared.State.{State}
 use Rattle.word.specs.Bytes.{wordBytes}
 use Rattle.word.specs.Cases.{both, rest, this}

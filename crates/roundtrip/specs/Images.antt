@@ -15,7 +15,7 @@ use Rattle.image.specs.Image.{entryBytes, imageOf}
 use Rattle.image.specs.Layout.{causeAt, conditionAt, flagAt, imageSize, mmuAt, pendingAt, tlbAt}
 use Rattle.image.specs.Valid.{allZeros, flagGood, goodImage, pendingGood}
 use Rattle.machine.specs.Answers.{conditionNumber}
-use Rattle.machine.specs.Flag.{flagWord}
+use Rattle.status.specs.Flag.{flagWord}
 use Rattle.machine.specs.Spelled.{spelled, whole}
 use Rattle.machine.specs.declared.Condition.the-variants.{Halted, Lost, Running}
 use Rattle.word.specs.Bytes.{byteFrom, wordBytes, wordFrom}

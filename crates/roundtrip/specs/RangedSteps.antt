@@ -18,9 +18,9 @@ use Rattle.machine.specs.Register.{regsAfter, sspAfter, sspWith, uspAfter, uspW
 use Rattle.machine.specs.State.{withPc}
 use Rattle.machine.specs.Step.{commit, stepOf}
 use Rattle.machine.specs.StepLaws.{body-by, enter-by}
-use Rattle.machine.specs.declared.Operation.{Operation}
-use Rattle.machine.specs.declared.Plan.{Plan}
-use Rattle.machine.specs.declared.Plan.the-variants.{Interrupt, Perform, Trap, Violation}
+use Rattle.plan.specs.declared.Operation.{Operation}
+use Rattle.plan.specs.declared.Plan.{Plan}
+use Rattle.plan.specs.declared.Plan.the-variants.{Interrupt, Perform, Trap, Violation}
 use Rattle.machine.specs.declared.State.{State}
 use Rattle.mmu.specs.Answers.{faultNumber}
 use Rattle.mmu.specs.Memory.{storeWord, stored}

@@ -17,9 +17,9 @@ use Rattle.machine.specs.Register.{regsAfter}
 use Rattle.machine.specs.State.{withPc}
 use Rattle.machine.specs.Step.{commit, stepOf}
 use Rattle.machine.specs.StepLaws.{body-by, enter-by}
-use Rattle.machine.specs.declared.Operation.{Operation}
-use Rattle.machine.specs.declared.Plan.{Plan}
-use Rattle.machine.specs.declared.Plan.the-variants.{Interrupt, Perform, Trap, Violation}
+use Rattle.plan.specs.declared.Operation.{Operation}
+use Rattle.plan.specs.declared.Plan.{Plan}
+use Rattle.plan.specs.declared.Plan.the-variants.{Interrupt, Perform, Trap, Violation}
 use Rattle.machine.specs.declared.State.{State}
 use Rattle.mmu.specs.Marks.{like-zeros, marked-like}
 use Rattle.mmu.specs.declared.Fault.{Fault}

@@ -11,16 +11,17 @@ use Rattle.decode.specs.declared.Operand.{Operand}
 use Rattle.decode.specs.declared.Privilege.the-variants.{Anyone}
 use Rattle.machine.specs.Enter.{Outcome}
 use Rattle.machine.specs.Flag.{flagOf}
-use Rattle.machine.specs.Need.{addressOf, needOf, valueStored}
-use Rattle.machine.specs.Plan.{endOf, interrupted, planFetch, planFirst, planOf, planOperand, planSecond, planned, taken, translates}
+use Rattle.plan.specs.Need.{addressOf, needOf, valueStored}
+use Rattle.machine.specs.Plan.{interrupted, planFetch, planFirst, planOf, planOperand, planSecond, planned, taken, translates}
+use Rattle.plan.specs.End.{endOf}
 use Rattle.machine.specs.Register.{regOf, spOf}
 use Rattle.machine.specs.Step.{commit, stepOf}
-use Rattle.machine.specs.Transfer.{transferOf}
+use Rattle.plan.specs.Transfer.{transferOf}
 use Rattle.machine.specs.declared.Event.the-variants.{Executed}
 use Rattle.machine.specs.declared.Planned.{Planned}
-use Rattle.machine.specs.declared.Ready.{Ready}
+use Rattle.plan.specs.declared.Ready.{Ready}
 use Rattle.machine.specs.declared.State.{State}
-use Rattle.machine.specs.declared.Transfer.the-variants.{Done}
+use Rattle.plan.specs.declared.Transfer.the-variants.{Done}
 use Rattle.mmu.specs.Access.{granted, wordAccess}
 use Rattle.mmu.specs.Memory.{wordAt}
 use Rattle.mmu.specs.declared.Right.{Right}

@@ -11,8 +11,8 @@ use Rattle.decode.specs.Decode.{rdField, rxField, usesRx}
 use Rattle.decode.specs.Instructions.{addStates, condition, costOf, divStates, eight, inModes, inRows, modeBits, opcodeOf, register, row, rows, shiftStates, single, statesAt, unused}
 use Rattle.decode.specs.declared.DataAccess.the-variants as data-access
 use Rattle.decode.specs.declared.Flow.the-variants as flow
-use Rattle.machine.specs.Plan.{holds}
-use Rattle.machine.specs.declared.Need.the-variants.{ReadByte, ReadWord, WriteByte, WriteWord}
+use Rattle.status.specs.Flag.{holds}
+use Rattle.plan.specs.declared.Need.the-variants.{ReadByte, ReadWord, WriteByte, WriteWord}
 use Rattle.machine.specs.declared.State.{State}
 use Rattle.mmu.specs.declared.Right.the-variants.{Execute, Read}
 use Rattle.word.specs.Jump.{conditionOf}

@@ -8,12 +8,12 @@ use Rattle.decode.specs.Decode.{hasSecond, operandOf, rxField, shapeOf}
 use Rattle.decode.specs.Instructions.{Row}
 use Rattle.decode.specs.declared.Operand.{Operand}
 use Rattle.decode.specs.declared.Operand.the-variants as operand
-use Rattle.machine.specs.Need.{addressOf, loadNeed, storeNeed}
+use Rattle.plan.specs.Need.{addressOf, loadNeed, storeNeed}
 use Rattle.machine.specs.Plan.{planOperand, planSecond, translates}
 use Rattle.machine.specs.Register.{regOf}
-use Rattle.machine.specs.Transfer.{loaded, transferOf}
-use Rattle.machine.specs.declared.Need.{Need}
-use Rattle.machine.specs.declared.Need.the-variants.{ReadByte, ReadWord, WriteByte, WriteWord}
+use Rattle.plan.specs.Transfer.{loaded, transferOf}
+use Rattle.plan.specs.declared.Need.{Need}
+use Rattle.plan.specs.declared.Need.the-variants.{ReadByte, ReadWord, WriteByte, WriteWord}
 use Rattle.machine.specs.declared.State.{State}
 use Rattle.mmu.specs.Access.{byteAccess, granted}
 use Rattle.mmu.specs.Memory.{byteAt, wordAt}

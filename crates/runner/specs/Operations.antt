@@ -21,18 +21,20 @@ use Rattle.decode.specs.declared.Operand.the-variants as operand
 use Rattle.machine.specs.Enter.{Outcome}
 use Rattle.machine.specs.Execute.{afterOperation, aluOf, bodyOf, eventOf, withResult}
 use Rattle.machine.specs.Flag.{flagOf}
-use Rattle.machine.specs.Need.{addressOf, needOf, valueStored}
-use Rattle.machine.specs.Plan.{endOf, holds, planFirst, planOperand, planned, taken, translates}
+use Rattle.plan.specs.Need.{addressOf, needOf, valueStored}
+use Rattle.machine.specs.Plan.{planFirst, planOperand, planned, taken, translates}
+use Rattle.plan.specs.End.{endOf}
+use Rattle.status.specs.Flag.{holds}
 use Rattle.machine.specs.Register.{regOf, spOf, withReg}
 use Rattle.machine.specs.State.{withPc}
 use Rattle.machine.specs.Step.{commit}
-use Rattle.machine.specs.Transfer.{transferOf}
-use Rattle.machine.specs.declared.Need.{Need}
-use Rattle.machine.specs.declared.Need.the-variants.{WriteByte, WriteWord}
-use Rattle.machine.specs.declared.Operation.{Operation}
-use Rattle.machine.specs.declared.Plan.the-variants.{Perform}
+use Rattle.plan.specs.Transfer.{transferOf}
+use Rattle.plan.specs.declared.Need.{Need}
+use Rattle.plan.specs.declared.Need.the-variants.{WriteByte, WriteWord}
+use Rattle.plan.specs.declared.Operation.{Operation}
+use Rattle.plan.specs.declared.Plan.the-variants.{Perform}
 use Rattle.machine.specs.declared.State.{State}
-use Rattle.machine.specs.declared.Transfer.the-variants.{Done}
+use Rattle.plan.specs.declared.Transfer.the-variants.{Done}
 use Rattle.mmu.specs.Access.{byteAccess, granted}
 use Rattle.mmu.specs.Memory.{storeByte, storeWord, stored, wordAt}
 use Rattle.mmu.specs.declared.Right.the-variants.{Read, Write}

@@ -8,8 +8,8 @@ use lib.ListN.{getD}
 use Rattle.decode.specs.Decode.{rxField, usesRx}
 use Rattle.decode.specs.Instructions.{addStates, eight, statesAt}
 use Rattle.machine.specs.Register.{regOf}
-use Rattle.machine.specs.declared.Need.{Need}
-use Rattle.machine.specs.declared.Need.the-variants.{ReadByte, ReadWord, WriteByte, WriteWord}
+use Rattle.plan.specs.declared.Need.{Need}
+use Rattle.plan.specs.declared.Need.the-variants.{ReadByte, ReadWord, WriteByte, WriteWord}
 use Rattle.machine.specs.declared.State.{State}
 use Rattle.mmu.specs.declared.Right.the-variants.{Execute, Read}
 use Rattle.word.specs.Word.{plus, upper}

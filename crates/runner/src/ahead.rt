@@ -11,8 +11,8 @@ use crate::map::by_tlb;
 use crate::map::identity;
 use crate::quick::quick;
 use machine::Condition;
-use machine::Flags;
 use machine::State;
+use status::Flags;
 
 // The registers by their numbers, SP among them.
 fn spread(state: State) -> [u16; 16]

@@ -2,7 +2,7 @@
 ghost use mathlib.Core.Path.{_≡_};
 ghost use Prim.Native.Nat.{_<_, _%_};
 ghost use lib.ListN.{length, set};
-ghost use Rattle.machine.specs.Plan.{holds};
+ghost use Rattle.status.specs.Flag.{holds};
 ghost use Rattle.word.specs.Jump.{conditionOf};
 ghost use Rattle.runner.specs.Rows.{addCost, loadCost};
 ghost use Rattle.runner.specs.Sources.{modeOf};

@@ -9,13 +9,14 @@ use Rattle.decode.specs.Instructions.{Opcode, addStates, costOf, divStates, eig
 use Rattle.machine.specs.Answers.{statesOf}
 use Rattle.machine.specs.Enter.{enterOf, pushed}
 use Rattle.machine.specs.Execute.{afterOperation, aluOf, bodyOf, eventOf}
-use Rattle.machine.specs.Flag.{flagWord}
-use Rattle.machine.specs.Need.{addressOf, loadNeed, needOf, storeNeed, valueStored}
-use Rattle.machine.specs.Plan.{endOf, interruptIn, planFetch, planFirst, planOf, planOperand, planSecond}
+use Rattle.status.specs.Flag.{flagWord}
+use Rattle.plan.specs.Need.{addressOf, loadNeed, needOf, storeNeed, valueStored}
+use Rattle.machine.specs.Plan.{interruptIn, planFetch, planFirst, planOf, planOperand, planSecond}
+use Rattle.plan.specs.End.{endOf}
 use Rattle.machine.specs.Ports.{causeAfter, mmuAfter, outputAfter, portIn, tlbAfter, tlbPort}
 use Rattle.machine.specs.Register.{regIn, regsAfter, spIn, sspAfter, sspWith, uspAfter, uspWith}
 use Rattle.machine.specs.Step.{commit, stepOf}
-use Rattle.machine.specs.Transfer.{transferOf}
+use Rattle.plan.specs.Transfer.{transferOf}
 use Rattle.machine.specs.declared.Event.the-variants.{Entered, Executed, Halted, Lost}
 use Rattle.mmu.specs.Access.{byEntry, byTlb, byteAccess, wordAccess}
 use Rattle.mmu.specs.Lookup.{lookupFrom, lookupOf}

@@ -6,7 +6,7 @@ use Prim.Native.Nat.{suc, zero, ℕ, _*_, _+_}
 use lib.Dec.{eqb}
 use lib.ListN.{replicate, set}
 use Rattle.machine.specs.Enter.{Outcome}
-use Rattle.machine.specs.Flag.{flagsFrom}
+use Rattle.status.specs.Flag.{flagsFrom}
 use Rattle.machine.specs.Step.{stepOf}
 use Rattle.machine.specs.declared.Condition.{Condition}
 use Rattle.machine.specs.declared.Condition.the-variants as condition

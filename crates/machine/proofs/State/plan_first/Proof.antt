@@ -11,8 +11,8 @@ enum-told c = search needs
 enum-known-first : tie.Need-enum-known-first
 enum-known-first c = search needs
 
-permitted-requires : tie.Need-permitted-requires
-permitted-requires c κs = search needs
+permits-requires : tie.Need-permits-requires
+permits-requires c κs = search needs
 
 plan-second-requires : tie.Need-plan-second-requires
 plan-second-requires c κs = search needs
@@ -20,7 +20,7 @@ plan-second-requires c κs = search needs
 returns : tie.Need-returns
 unfolding planFirst
 returns c =
-    rw (c .before .before .before .before .first .given .1, ← c .before .before .permitted .ensures, c .before .if1 .taken) (c .plan-second .ensures)
+    rw (c .before .before .before .before .before .first .given .1, ← c .before .before .permits .ensures, c .before .if1 .taken) (c .plan-second .ensures)
 
 returns-2 : tie.Need-returns-2
 unfolding planFirst
@@ -28,7 +28,7 @@ returns-2 c = rw (c .enum-told .given .1)
 
 returns-3 : tie.Need-returns-3
 unfolding planFirst
-returns-3 c = rw (c .before .before .before .first .given .1, ← c .before .permitted .ensures, c .if1 .left)
+returns-3 c = rw (c .before .before .before .before .first .given .1, ← c .before .permits .ensures, c .if1 .left)
 
 pub plan-first-spec : {M : Type 1} → statement M
 plan-first-spec =
@@ -36,7 +36,7 @@ plan-first-spec =
     (tie.spec
     enum-told
     enum-known-first
-    permitted-requires
+    permits-requires
     plan-second-requires
     returns
     returns-2
