@@ -1,5 +1,6 @@
--- A worked pair of calls: a user program that enters the kernel, on two memories that hold different handlers' addresses. The premises of
--- `isolated-calls` are met, so what it says holds of the two calls for every allowance; and from 1 on they differ in PC's bytes indeed.
+-- A worked pair of calls: a user program that enters the kernel, on two memories that hold different handlers' addresses. `pair`: the
+-- premises of `isolated-calls` are met, so what it says holds of the two calls, for every allowance. `entered`: with an allowance of 9 they
+-- leave the two handlers' addresses in PC.
 -- Assumes nothing.
 use mathlib.Core.Bool.{Bool, false, true, true≢false, _&&_}
 use mathlib.Core.List.{List, [], _∷_}
@@ -10,40 +11,32 @@ use borrow.Author.Tests.{ltb-true}
 use lib.Dec.{ltb}
 use lib.ListN.{getD, length, length-replicate, length-set, replicate, set}
 use lib.Seq.{getD-set-other}
+use Rattle.decode.specs.Decode.{fieldsBad, firstOf, hasSecond, usesRx}
+use Rattle.decode.specs.Instructions.{eight, inModes, inRows, modeBits, opcodeOf, row, rows, single}
 use Rattle.image.specs.Decode.{conditionFrom, stateFrom}
+use Rattle.image.specs.Image.{entryBytes, imageOf}
 use Rattle.image.specs.Layout.{imageSize, mmuAt, pcAt, sspAt, tlbAt}
 use Rattle.image.specs.Valid.{allZeros, flagGood, goodImage, machineValid, pendingGood, zerosGood}
-use Rattle.isolation.specs.Statement.{Alike, hasRight, visible}
-use Rattle.refusal.specs.Refusal.{reportFits}
-use Rattle.refusal.specs.declared.Validity.the-variants.{Good}
-use Rattle.report.specs.Layout.{reportSize}
-use Rattle.roundtrip.specs.Each.{each-set}
-use Rattle.roundtrip.specs.Statement.{Byte, Bytes}
-use Rattle.tac.specs.Call.{runCall, runValid}
-use Rattle.word.specs.Cases.{rest, this}
-use Rattle.word.specs.Word.{upper}
-use Rattle.decode.specs.Decode.{fieldsBad, firstOf, hasSecond, operandOf, usesRx}
-use Rattle.decode.specs.Instructions.{Opcode, addStates, costOf, divStates, eight, inModes, inRows, known, modeBits, opcodeOf, row, rows, shiftStates, single, statesAt, unknown}
+use Rattle.isolation.specs.Statement.{hasRight, visible}
 use Rattle.machine.specs.Enter.{enterOf, pushed}
-use Rattle.machine.specs.Execute.{afterOperation, aluOf, bodyOf, eventOf}
 use Rattle.machine.specs.Flag.{flagWord}
-use Rattle.machine.specs.Need.{addressOf, loadNeed, needOf, storeNeed, valueStored}
+use Rattle.machine.specs.Need.{needOf}
 use Rattle.machine.specs.Plan.{endOf, interruptIn, planFetch, planFirst, planOf, planOperand, planSecond}
-use Rattle.machine.specs.Ports.{causeAfter, mmuAfter, outputAfter, portIn, tlbAfter, tlbPort}
-use Rattle.machine.specs.Register.{regIn, regsAfter, spIn, sspAfter, sspWith, uspAfter, uspWith}
+use Rattle.machine.specs.Run.{runFrom, runOf}
 use Rattle.machine.specs.Step.{commit, stepOf}
 use Rattle.machine.specs.Transfer.{transferOf}
 use Rattle.mmu.specs.Access.{byEntry, byTlb, byteAccess, wordAccess}
 use Rattle.mmu.specs.Lookup.{lookupFrom, lookupOf}
-use Rattle.mmu.specs.Memory.{stored}
-use Rattle.word.specs.Alu.{addOf, addsOf, andOf, divOf, modOf, mulOf, orOf, shlOf, shraOf, shrlOf, subOf, xorOf}
-use Rattle.word.specs.Jump.{conditionOf}
-use Rattle.word.specs.Signed.{signed4}
-use lib.Count.{trailingZeros}
-use Rattle.image.specs.Image.{entryBytes, imageOf}
-use Rattle.machine.specs.Run.{runFrom, runOf}
+use Rattle.refusal.specs.Refusal.{reportFits}
+use Rattle.refusal.specs.declared.Validity.the-variants.{Good}
+use Rattle.report.specs.Layout.{reportSize}
 use Rattle.report.specs.Report.{reportOf}
+use Rattle.roundtrip.specs.Each.{each-set}
+use Rattle.roundtrip.specs.Statement.{Byte, Bytes}
+use Rattle.tac.specs.Call.{runCall, runValid}
 use Rattle.word.specs.Bytes.{wordBytes, wordFrom}
+use Rattle.word.specs.Cases.{rest, this}
+use Rattle.word.specs.Word.{upper}
 use Rattle.calls.specs.Statement.{Given, Shared}
 use Rattle.calls.specs.Theorem.{isolated-calls}
 
@@ -139,15 +132,12 @@ tested = ap (λ (n : ℕ). runValid n image (length report)) memory-long
 pub pair : (allowance : ℕ) → Shared memory memory′ image (runCall memory image allowance report) (runCall memory′ image allowance report)
 pair allowance = isolated-calls memory memory′ image allowance report (memory-long ∙ sym memory-long′) .passed tested given
 
--- with at least one step both enter the kernel with 15 after one step of 12 states; the saved PC is 1202h
+-- SVC enters the kernel with 15, after one step of 12 states; the saved PC is 1202h, and PC the handler's address, another in each memory
 pub entered :
     ((runCall memory image 9 report) .report ≡ 1 ∷ 15 ∷ 0 ∷ 1 ∷ 0 ∷ 0 ∷ 0 ∷ 12 ∷ 0x12 ∷ 0x02 ∷ 0 ∷ 0 ∷ [])
     × ((wordFrom ((runCall memory image 9 report) .image) pcAt ≡ 0) × (wordFrom ((runCall memory′ image 9 report) .image) pcAt ≡ 0x2000))
 unfolding image memory memory′ report runCall machineValid goodImage flagGood pendingGood allZeros zerosGood reportFits stateFrom conditionFrom
-    reportOf imageOf wordBytes entryBytes runOf runFrom
-    addOf addsOf andOf divOf modOf mulOf orOf shlOf shraOf shrlOf subOf xorOf conditionOf signed4
-    fieldsBad firstOf hasSecond operandOf usesRx addStates costOf divStates eight inModes inRows modeBits opcodeOf row rows shiftStates single statesAt
-    enterOf pushed afterOperation aluOf bodyOf eventOf flagWord stored byEntry byTlb byteAccess lookupFrom lookupOf wordAccess transferOf
-    addressOf loadNeed needOf storeNeed valueStored endOf interruptIn planFetch planFirst planOf planOperand planSecond trailingZeros
-    causeAfter mmuAfter outputAfter portIn tlbAfter tlbPort regIn regsAfter spIn sspAfter sspWith uspAfter uspWith commit stepOf
+    reportOf imageOf wordBytes entryBytes runOf runFrom commit stepOf enterOf pushed flagWord
+    fieldsBad firstOf hasSecond usesRx eight inModes inRows modeBits opcodeOf row rows single byEntry byTlb byteAccess lookupFrom lookupOf wordAccess
+    needOf transferOf endOf interruptIn planFetch planFirst planOf planOperand planSecond
 entered = (refl, (refl, refl))
