@@ -3,7 +3,7 @@
 use mathlib.Core.Bool.{Bool, cond, not, true, _&&_}
 use mathlib.Core.List.{List, [], append-assoc, flatten, map, _++_, _∷_}
 use mathlib.Core.Path.{ap, refl, sym, _∙_, _≡_}
-use Prim.Native.Nat.{suc, zero, ℕ, _%_, _*_, _+_, _/_, _<_, _≤_}
+use Prim.Native.Nat.{suc, zero, ℕ, _%_, _*_, _+_, _/_, _<_}
 use native.Mathlib.Omega.{arith}
 use borrow.Author.Tests.{lt-ltb, ne-eqb, not-true}
 use lib.Dec.{eqb, ltb}
@@ -44,12 +44,15 @@ unfoldable unbroken : List ℕ → Bool
 unbroken [] = true
 unbroken (c ∷ cs) = not (isNewline c) && unbroken cs
 
+abbrev Unbroken : List ℕ → Type 0
+Unbroken text = unbroken text ≡ true
+
 record IsLine (line : List ℕ) : Type 0 where
   words : List ℕ
-  whole : unbroken words ≡ true
+  whole : Unbroken words
   ended : line ≡ words ++ newline
 
-unbroken-both : (a b : List ℕ) → unbroken a ≡ true → unbroken b ≡ true → unbroken (a ++ b) ≡ true
+unbroken-both : (a b : List ℕ) → Unbroken a → Unbroken b → Unbroken (a ++ b)
 unfolding unbroken
 unbroken-both [] b p q = q
 unbroken-both (c ∷ cs) b p q =
@@ -57,7 +60,7 @@ unbroken-both (c ∷ cs) b p q =
     (unbroken-both cs b (rest (not (isNewline c)) (unbroken cs) p) q)
 
 -- more words in front
-before : (a : List ℕ) {line : List ℕ} → unbroken a ≡ true → IsLine line → IsLine (a ++ line)
+before : (a : List ℕ) {line : List ℕ} → Unbroken a → IsLine line → IsLine (a ++ line)
 before a p l =
     record {
       words = a ++ l .words;
@@ -70,13 +73,13 @@ unfolding unbroken
 end-line = record { words = []; whole = refl; ended = refl }
 
 -- the first line of a text that begins with a line, and the others
-first-of : (words text : List ℕ) → unbroken words ≡ true → firstLine ((words ++ newline) ++ text) ≡ words ++ newline
+first-of : (words text : List ℕ) → Unbroken words → firstLine ((words ++ newline) ++ text) ≡ words ++ newline
 unfolding firstLine unbroken
 first-of [] text p = refl
 first-of (c ∷ cs) text p =
     rw (not-true (isNewline c) (this (not (isNewline c)) (unbroken cs) p), first-of cs text (rest (not (isNewline c)) (unbroken cs) p))
 
-later-of : (words text : List ℕ) → unbroken words ≡ true → laterLines ((words ++ newline) ++ text) ≡ text
+later-of : (words text : List ℕ) → Unbroken words → laterLines ((words ++ newline) ++ text) ≡ text
 unfolding laterLines unbroken
 later-of [] text p = refl
 later-of (c ∷ cs) text p =
@@ -90,13 +93,10 @@ later-lines text l = rw (l .ended) (later-of (l .words) text (l .whole))
 
 -- ---- the words of a listing
 
-abbrev Unbroken : List ℕ → Type 0
-Unbroken text = unbroken text ≡ true
-
-digit-unbroken : (d : ℕ) → unbroken (digitOf d ∷ []) ≡ true
+digit-unbroken : (d : ℕ) → Unbroken (digitOf d ∷ [])
 unfolding unbroken
 digit-unbroken d =
-    either (λ (c : ℕ). unbroken (c ∷ []) ≡ true) (ltb d 10) (λ _. rw (ne-eqb (48 + d) 10 (λ e. omega arith)))
+    either (λ (c : ℕ). Unbroken (c ∷ [])) (ltb d 10) (λ _. rw (ne-eqb (48 + d) 10 (λ e. omega arith)))
     (λ _. rw (ne-eqb (55 + d) 10 (λ e. omega arith)))
 
 decimal-unbroken : (k n : ℕ) → Unbroken (decimalOf k n)
@@ -126,13 +126,14 @@ number-unbroken n = either Unbroken (eqb n 255) (λ _. refl) (λ _. decimal-unbr
 line-is-line : (r : List ℕ) → IsLine (lineOf r)
 unfolding lineOf unbroken
 line-is-line r =
+    let states : ℕ = wordFrom r statesAt * 65536 + wordFrom r (statesAt + 2) in
     before (endingText (getD r endingAt 0)) (ending-unbroken (getD r endingAt 0))
     (before space refl
     (before (numberText (getD r numberAt 0)) (number-unbroken (getD r numberAt 0))
     (before space refl
     (before (decimalOf 5 (wordFrom r stepsAt)) (decimal-unbroken 5 (wordFrom r stepsAt))
     (before space refl
-    (before (decimalOf 10 (wordFrom r statesAt * 65536 + wordFrom r (statesAt + 2))) (decimal-unbroken 10 (wordFrom r statesAt * 65536 + wordFrom r (statesAt + 2)))
+    (before (decimalOf 10 states) (decimal-unbroken 10 states)
     (before space refl
     (before (hexOf (wordFrom r pcAt)) (hex-unbroken (wordFrom r pcAt))
     (before space refl
