@@ -1,4 +1,5 @@
 pub mod Laws
+pub mod Lines
 pub mod Listing
 pub mod Text
 pub mod Written

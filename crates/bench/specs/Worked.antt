@@ -1,0 +1,54 @@
+-- The worked card of document 01, from its bytes to its listing: the files examples/worked.card and examples/worked.txt, byte for byte.
+-- Assumes nothing.
+use mathlib.Core.List.{List, [], _++_, _∷_}
+use mathlib.Core.Path.{refl, _≡_}
+use Prim.Native.Nat.{ℕ}
+use Rattle.card.specs.Call.{cardCall, filledPart}
+use Rattle.card.specs.Card.{cardValid, readAtMost, readFrom, readingOf, runsIn}
+use Rattle.card.specs.Command.{commandOf, goodOf, operandsOf, parsedOf}
+use Rattle.card.specs.Effect.{effectOf, executeOf, withRegister}
+use Rattle.decode.specs.Decode.{fieldsBad, firstOf, hasSecond, usesRx}
+use Rattle.decode.specs.Instructions.{costOf, eight, inModes, inRows, modeBits, opcodeOf, row, rows, single, statesAt}
+use Rattle.image.specs.Decode.{conditionFrom, stateFrom}
+use Rattle.image.specs.Valid.{allZeros, flagGood, goodImage, machineValid, pendingGood, zerosGood}
+use Rattle.listing.specs.Listing.{endingText, lineOf, linesOf, listingOf, numberText, runsText}
+use Rattle.listing.specs.Text.{decimalOf, hexOf}
+use Rattle.machine.specs.Enter.{enterOf, pushed}
+use Rattle.machine.specs.Execute.{afterOperation, bodyOf, eventOf}
+use Rattle.machine.specs.Flag.{flagWord}
+use Rattle.machine.specs.Need.{needOf}
+use Rattle.machine.specs.Plan.{endOf, interruptIn, planFetch, planFirst, planOf, planOperand, planSecond}
+use Rattle.machine.specs.Run.{runFrom, runOf}
+use Rattle.machine.specs.Step.{commit, stepOf}
+use Rattle.machine.specs.Transfer.{transferOf}
+use Rattle.mmu.specs.Access.{byteAccess, wordAccess}
+use Rattle.mmu.specs.Memory.{stored}
+use Rattle.refusal.specs.Refusal.{reportFits}
+use Rattle.report.specs.Report.{reportOf}
+use Rattle.word.specs.Bytes.{wordBytes}
+use Rattle.bench.specs.Bench.{benchOf}
+
+-- F000h, SVC, at 0006h; SSP 1000h; a run of 10 steps; FF00h, HALT, at 0000h; a run of 2 steps
+abbrev pub workedCard : List ℕ
+workedCard =
+    (0x01 ∷ 0x00 ∷ 0x06 ∷ 0xf0 ∷ [])
+    ++ (0x02 ∷ 0x0d ∷ 0x10 ∷ 0x00 ∷ [])
+    ++ (0x04 ∷ 0x00 ∷ 0x0a ∷ [])
+    ++ (0x01 ∷ 0x00 ∷ 0x00 ∷ 0xff ∷ [])
+    ++ (0x04 ∷ 0x00 ∷ 0x02 ∷ [])
+
+-- "runs 2", "entered 15 4 21 0008 0040" and "halted - 1 5 0002 0040"
+abbrev pub workedText : List ℕ
+workedText =
+    (114 ∷ 117 ∷ 110 ∷ 115 ∷ 32 ∷ 50 ∷ 10 ∷ [])
+    ++ (101 ∷ 110 ∷ 116 ∷ 101 ∷ 114 ∷ 101 ∷ 100 ∷ 32 ∷ 49 ∷ 53 ∷ 32 ∷ 52 ∷ 32 ∷ 50 ∷ 49 ∷ 32 ∷ 48 ∷ 48 ∷ 48 ∷ 56 ∷ 32 ∷ 48 ∷ 48 ∷ 52 ∷ 48 ∷ 10 ∷ [])
+    ++ (104 ∷ 97 ∷ 108 ∷ 116 ∷ 101 ∷ 100 ∷ 32 ∷ 45 ∷ 32 ∷ 49 ∷ 32 ∷ 53 ∷ 32 ∷ 48 ∷ 48 ∷ 48 ∷ 50 ∷ 32 ∷ 48 ∷ 48 ∷ 52 ∷ 48 ∷ 10 ∷ [])
+
+pub worked-listing : benchOf workedCard ≡ workedText
+unfolding benchOf cardCall filledPart cardValid readAtMost readFrom readingOf runsIn commandOf goodOf operandsOf parsedOf effectOf executeOf withRegister
+    machineValid goodImage flagGood pendingGood allZeros zerosGood reportFits stateFrom conditionFrom
+    listingOf runsText linesOf lineOf endingText numberText decimalOf hexOf reportOf wordBytes
+    runOf runFrom commit stepOf afterOperation bodyOf eventOf enterOf pushed flagWord
+    fieldsBad firstOf hasSecond usesRx costOf eight inModes inRows modeBits opcodeOf row rows single statesAt byteAccess wordAccess stored
+    needOf transferOf endOf interruptIn planFetch planFirst planOf planOperand planSecond
+worked-listing = refl
