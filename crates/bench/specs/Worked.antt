@@ -15,12 +15,13 @@ use Rattle.listing.specs.Listing.{endingText, lineOf, linesOf, listingOf, numbe
 use Rattle.listing.specs.Text.{decimalOf, hexOf}
 use Rattle.machine.specs.Enter.{enterOf, pushed}
 use Rattle.machine.specs.Execute.{afterOperation, bodyOf, eventOf}
-use Rattle.machine.specs.Flag.{flagWord}
-use Rattle.machine.specs.Need.{needOf}
-use Rattle.machine.specs.Plan.{endOf, interruptIn, planFetch, planFirst, planOf, planOperand, planSecond}
+use Rattle.status.specs.Flag.{flagWord}
+use Rattle.plan.specs.Need.{needOf}
+use Rattle.machine.specs.Plan.{interruptIn, planFetch, planFirst, planOf, planOperand, planSecond}
+use Rattle.plan.specs.End.{endOf}
 use Rattle.machine.specs.Run.{runFrom, runOf}
 use Rattle.machine.specs.Step.{commit, stepOf}
-use Rattle.machine.specs.Transfer.{transferOf}
+use Rattle.plan.specs.Transfer.{transferOf}
 use Rattle.mmu.specs.Access.{byteAccess, wordAccess}
 use Rattle.mmu.specs.Memory.{stored}
 use Rattle.refusal.specs.Refusal.{reportFits}

@@ -19,12 +19,13 @@ use Rattle.image.specs.Layout.{imageSize, mmuAt, pcAt, sspAt, tlbAt}
 use Rattle.image.specs.Valid.{allZeros, flagGood, goodImage, machineValid, pendingGood, zerosGood}
 use Rattle.isolation.specs.Statement.{hasRight, visible}
 use Rattle.machine.specs.Enter.{enterOf, pushed}
-use Rattle.machine.specs.Flag.{flagWord}
-use Rattle.machine.specs.Need.{needOf}
-use Rattle.machine.specs.Plan.{endOf, interruptIn, planFetch, planFirst, planOf, planOperand, planSecond}
+use Rattle.status.specs.Flag.{flagWord}
+use Rattle.plan.specs.Need.{needOf}
+use Rattle.machine.specs.Plan.{interruptIn, planFetch, planFirst, planOf, planOperand, planSecond}
+use Rattle.plan.specs.End.{endOf}
 use Rattle.machine.specs.Run.{runFrom, runOf}
 use Rattle.machine.specs.Step.{commit, stepOf}
-use Rattle.machine.specs.Transfer.{transferOf}
+use Rattle.plan.specs.Transfer.{transferOf}
 use Rattle.mmu.specs.Access.{byEntry, byTlb, byteAccess, wordAccess}
 use Rattle.mmu.specs.Lookup.{lookupFrom, lookupOf}
 use Rattle.refusal.specs.Refusal.{reportFits}
