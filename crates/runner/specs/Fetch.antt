@@ -26,11 +26,16 @@ use Rattle.mmu.specs.Memory.{wordAt}
 use Rattle.mmu.specs.declared.Right.{Right}
 use Rattle.mmu.specs.declared.Right.the-variants.{Execute}
 use Rattle.mmu.specs.declared.Store.{Store}
+use Rattle.pages.specs.Maps.{Mapped}
 use Rattle.word.specs.Word.{plus, upper}
 
 -- an access to a word that is granted at a physical address and leaves the TLB as it is
 abbrev pub Grants : State → Right → ℕ → ℕ → Type 0
 Grants st right a at = wordAccess (translates st) (st .tlb) right a ≡ granted at (st .tlb)
+
+-- a map of the pages
+abbrev pub MapOf : State → List ℕ → Type 0
+MapOf st map = Mapped (translates st) (st .tlb) map
 
 abbrev pub carriedOut : Planned → List ℕ → Outcome
 carriedOut p m = commit (p .plan) (p .state) m

@@ -12,10 +12,10 @@ use Rattle.machine.specs.Step.{stepOf}
 use Rattle.machine.specs.declared.Condition.the-variants.{Running}
 use Rattle.machine.specs.declared.State.{State}
 use Rattle.mmu.specs.declared.Right.the-variants.{Execute}
-use Rattle.runner.specs.Accesses.{WordRead}
-use Rattle.runner.specs.Fetch.{begins, did}
+use Rattle.pages.specs.Accesses.{WordRead}
+use Rattle.pages.specs.Maps.{word-granted}
+use Rattle.runner.specs.Fetch.{MapOf, begins, did}
 use Rattle.runner.specs.Hot.{hotState}
-use Rattle.runner.specs.Maps.{Mapped, word-granted}
 use Rattle.runner.specs.Tells.{Tells, carried, stopped}
 use Rattle.runner.specs.declared.Hot.{Hot}
 
@@ -65,7 +65,7 @@ pub record Ready (b : State) : Type 0 where
 
 -- `steps` instructions on every such machine whose pages the map gives
 pub record Leads (map rs m : List ℕ) (h : Hot) (steps states : ℕ) (rs′ m′ : List ℕ) (h′ : Hot) : Type 0 where
-  pub goes : (b : State) → Ready b → Mapped b map → Goes (hotState b rs h) m steps states (hotState b rs′ h′) m′
+  pub goes : (b : State) → Ready b → MapOf b map → Goes (hotState b rs h) m steps states (hotState b rs′ h′) m′
 
 pub no-step : {map rs m : List ℕ} {h : Hot} → Leads map rs m h 0 0 rs m h
 no-step = record { goes = λ b ready maps. none }
@@ -78,7 +78,7 @@ module _ {map rs m : List ℕ} {h : Hot} {steps states : ℕ} {rs′ m′ : List
       record {
         goes = λ b ready maps.
             more (l .goes b ready maps) (ready .running)
-            (begins (hotState b rs′ h′) m′ (f .at) w (ready .calm) (word-granted b maps (f .below) (f .placed) (f .even)) (f .value) ∙ carried t n b maps);
+            (begins (hotState b rs′ h′) m′ (f .at) w (ready .calm) (word-granted maps (f .below) (f .placed) (f .even)) (f .value) ∙ carried t n b maps);
       }
 
   pub no-more :

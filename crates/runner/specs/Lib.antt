@@ -1,6 +1,5 @@
 pub mod Fetch
 pub mod Hot
-pub mod Maps
 pub mod Operands
 pub mod Rows
 pub mod Operations

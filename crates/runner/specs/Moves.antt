@@ -15,11 +15,12 @@ use Rattle.machine.specs.Plan.{holds}
 use Rattle.machine.specs.declared.Need.the-variants.{ReadByte, ReadWord, WriteByte, WriteWord}
 use Rattle.machine.specs.declared.State.{State}
 use Rattle.mmu.specs.declared.Right.the-variants.{Execute, Read}
+use Rattle.pages.specs.Accesses.{WordRead, Wrote, WroteByte}
+use Rattle.pages.specs.Maps.{byte-granted, word-granted}
 use Rattle.word.specs.Jump.{conditionOf}
 use Rattle.word.specs.Word.{minus, plus, upper}
-use Rattle.runner.specs.Accesses.{RegRead, WordRead, Wrote, WroteByte, second-of}
+use Rattle.runner.specs.Accesses.{RegRead, second-of}
 use Rattle.runner.specs.Hot.{hotState, reg-hot}
-use Rattle.runner.specs.Maps.{byte-granted, word-granted}
 use Rattle.runner.specs.Operands as operands
 use Rattle.runner.specs.Operands.{Addressed, Second}
 use Rattle.runner.specs.Operations.{RxFine, call-does, jump-does, no-does, pass-does, pop-does, push-does, ret-does, rx-low, rx-unused, store-byte-does, store-does}
@@ -127,7 +128,7 @@ module _ (map rs : List ℕ) (size : length rs ≡ 16) (m : List ℕ) (h : Hot) 
         done (omega arith) (omega arith) (at-thirteen sp) (λ b maps.
         rw (x .memory)
         (call-does b rs size h m w (omega arith) (added-fine ad) (target b rs m h w small d next (second-of b rs m h map maps fetched) k ad l a q)
-        (opens-call (modeOf w) small) sp (x .at) e (word-granted b maps (x .below) (x .placed) (x .even))))
+        (opens-call (modeOf w) small) sp (x .at) e (word-granted maps (x .below) (x .placed) (x .even))))
 
   module _ (next : ℕ) (n : next ≡ plus (h .pc) 2) where
     pub no-tells : upper w ≡ 0 → Tells map rs m h w rs m (to next 3)
@@ -138,20 +139,20 @@ module _ (map rs : List ℕ) (size : length rs ≡ 16) (m : List ℕ) (h : Hot) 
         → Tells map rs m h w (set rs 13 sp) m′ (to next 5)
     push-tells e low sp q x =
         done (omega arith) (omega arith) (at-thirteen sp) (λ b maps.
-        rw (x .memory) (push-does b rs size h m w next n e low sp (x .at) q (word-granted b maps (x .below) (x .placed) (x .even))))
+        rw (x .memory) (push-does b rs size h m w next n e low sp (x .at) q (word-granted maps (x .below) (x .placed) (x .even))))
 
     pub pop-tells :
         upper w ≡ 196 → rdField w < 14 → (sp x : ℕ) → sp ≡ plus (getD rs 13 0) 2 → WordRead map m Read (getD rs 13 0) x
         → Tells map rs m h w (set (set rs 13 sp) (rdField w) x) m (to next 6)
     pop-tells e low sp x q r =
         done (omega arith) (omega arith) (length-set (set rs 13 sp) (rdField w) x ∙ at-thirteen sp) (λ b maps.
-        pop-does b rs size h m w next n e low (r .at) sp x (word-granted b maps (r .below) (r .placed) (r .even)) (r .value) q)
+        pop-does b rs size h m w next n e low (r .at) sp x (word-granted maps (r .below) (r .placed) (r .even)) (r .value) q)
 
   pub ret-tells :
       upper w ≡ 208 → (sp x : ℕ) → sp ≡ plus (getD rs 13 0) 2 → WordRead map m Read (getD rs 13 0) x → Tells map rs m h w (set rs 13 sp) m (to x 6)
   ret-tells e sp x q r =
       done (omega arith) (omega arith) (at-thirteen sp) (λ b maps.
-      ret-does b rs size h m w _ refl e (r .at) sp x (word-granted b maps (r .below) (r .placed) (r .even)) (r .value) q)
+      ret-does b rs size h m w _ refl e (r .at) sp x (word-granted maps (r .below) (r .placed) (r .even)) (r .value) q)
 
   -- ---- ST
 
@@ -163,7 +164,7 @@ module _ (map rs : List ℕ) (size : length rs ≡ 16) (m : List ℕ) (h : Hot) 
     store-tells named (goes e low x) =
         let p = named (x .below) in
         rw e (done above below size (λ b maps.
-        rw (x .memory) (store-does b rs size h m w low (omega arith) (p .fine) (opens-store s) (p .addressed b maps h refl) (x .at) (word-granted b maps (x .below) (x .placed) (x .even)))))
+        rw (x .memory) (store-does b rs size h m w low (omega arith) (p .fine) (opens-store s) (p .addressed b maps h refl) (x .at) (word-granted maps (x .below) (x .placed) (x .even)))))
 
     pub store-byte-tells :
         {m′ : List ℕ} {r : Hot} {a next : ℕ} → (a < 65536 → Named rs map m (h .pc) w mode a next ReadByte WriteByte)
@@ -172,4 +173,4 @@ module _ (map rs : List ℕ) (size : length rs ≡ 16) (m : List ℕ) (h : Hot) 
     store-byte-tells named (goes e low x) =
         let p = named (x .below) in
         rw e (done above below size (λ b maps.
-        rw (x .memory) (store-byte-does b rs size h m w low (omega arith) (p .fine) (opens-store s) (p .addressed b maps h refl) (x .at) (byte-granted b maps (x .below) (x .placed)))))
+        rw (x .memory) (store-byte-does b rs size h m w low (omega arith) (p .fine) (opens-store s) (p .addressed b maps h refl) (x .at) (byte-granted maps (x .below) (x .placed)))))

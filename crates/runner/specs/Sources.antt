@@ -12,10 +12,12 @@ use Rattle.machine.specs.declared.Need.{Need}
 use Rattle.machine.specs.declared.Need.the-variants.{ReadByte, ReadWord, WriteByte, WriteWord}
 use Rattle.machine.specs.declared.State.{State}
 use Rattle.mmu.specs.declared.Right.the-variants.{Execute, Read}
+use Rattle.pages.specs.Accesses.{ByteRead, WordRead}
+use Rattle.pages.specs.Maps.{byte-granted, word-granted}
 use Rattle.word.specs.Word.{plus, upper}
-use Rattle.runner.specs.Accesses.{ByteRead, IndexedPlace, RegRead, WordRead, frame-word, second-of, short-word, shortOf}
+use Rattle.runner.specs.Accesses.{IndexedPlace, RegRead, frame-word, second-of, short-word, shortOf}
+use Rattle.runner.specs.Fetch.{MapOf}
 use Rattle.runner.specs.Hot.{hotState, reg-hot}
-use Rattle.runner.specs.Maps.{Mapped, byte-granted, word-granted}
 use Rattle.runner.specs.Operands.{Addressed, Sourced, byte-indirect, byte-read, direct, framed, immediate, indexed, indirect, register, short, word-read}
 use Rattle.runner.specs.Operations.{RxFine, rx-low, rx-unused}
 use Rattle.runner.specs.Rows.{addCost, below-eight}
@@ -41,7 +43,7 @@ last-mode =
 -- the value, with all registers and flags, on every machine whose pages the map gives
 pub record Valued (rs map m : List ℕ) (pc w mode x next : ℕ) : Type 0 where
   pub fine : RxFine mode w
-  pub sourced : (b : State) → Mapped b map → (h : Hot) → h .pc ≡ pc → Sourced (hotState b rs h) m w mode x next
+  pub sourced : (b : State) → MapOf b map → (h : Hot) → h .pc ≡ pc → Sourced (hotState b rs h) m w mode x next
 
 pub record SourceIs (rs map m : List ℕ) (pc w : ℕ) (r : Source) : Type 0 where
   pub cost : r .cost ≡ addCost (modeOf w)
@@ -50,7 +52,7 @@ pub record SourceIs (rs map m : List ℕ) (pc w : ℕ) (r : Source) : Type 0 whe
 -- the operand's address, in the same way
 pub record Named (rs map m : List ℕ) (pc w mode a next : ℕ) (read write : ℕ → Need) : Type 0 where
   pub fine : RxFine mode w
-  pub addressed : (b : State) → Mapped b map → (h : Hot) → h .pc ≡ pc → Addressed (hotState b rs h) m w mode a next read write
+  pub addressed : (b : State) → MapOf b map → (h : Hot) → h .pc ≡ pc → Addressed (hotState b rs h) m w mode a next read write
 
 module _ (rs map m : List ℕ) (pc w next : ℕ) where
   -- ---- addresses
@@ -112,7 +114,7 @@ module _ (rs map m : List ℕ) (pc w next : ℕ) where
         record {
           fine = p .fine;
           sourced = λ b maps h q.
-              word-read (hotState b rs h) m w mode a x next (r .at) (p .addressed b maps h q) (word-granted b maps (r .below) (r .placed) (r .even)) (r .value);
+              word-read (hotState b rs h) m w mode a x next (r .at) (p .addressed b maps h q) (word-granted maps (r .below) (r .placed) (r .even)) (r .value);
         }
 
     module _ (n : next ≡ plus pc 4) (d : ℕ) (fetch : d < 65536 → WordRead map m Execute (plus pc 2) d) where
@@ -174,6 +176,6 @@ module _ (rs map m : List ℕ) (pc w next : ℕ) where
                 record {
                   fine = p .fine;
                   sourced = λ b maps h q.
-                      byte-read (hotState b rs h) m w 7 a x next (r .at) (p .addressed b maps h q) (byte-granted b maps (r .below) (r .placed)) (r .value);
+                      byte-read (hotState b rs h) m w 7 a x next (r .at) (p .addressed b maps h q) (byte-granted maps (r .below) (r .placed)) (r .value);
                 });
           }

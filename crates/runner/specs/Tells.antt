@@ -8,8 +8,8 @@ use native.Mathlib.Omega.{arith}
 use lib.ListN.{length, set}
 use Rattle.machine.specs.declared.State.{State}
 use Rattle.word.specs.declared.alu.Alu.{Alu}
+use Rattle.runner.specs.Fetch.{MapOf}
 use Rattle.runner.specs.Hot.{hotState}
-use Rattle.runner.specs.Maps.{Mapped}
 use Rattle.runner.specs.Operations.{Does, RxFine}
 use Rattle.runner.specs.Operands.{Sourced}
 use Rattle.runner.specs.Sources.{SourceIs, modeOf}
@@ -20,7 +20,7 @@ pub data Tells (map rs m : List ℕ) (h : Hot) (w : ℕ) (rs′ m′ : List ℕ)
   stop : r .cost ≡ 0 → rs′ ≡ rs → m′ ≡ m → Tells map rs m h w rs′ m′ r
   done :
       0 < r .cost → r .cost < 65536 → length rs′ ≡ 16
-      → ((b : State) → Mapped b map → Does b rs h m w rs′ (r .pc) (r .v) (r .c) (r .s) (r .z) m′ (r .cost)) → Tells map rs m h w rs′ m′ r
+      → ((b : State) → MapOf b map → Does b rs h m w rs′ (r .pc) (r .v) (r .c) (r .s) (r .z) m′ (r .cost)) → Tells map rs m h w rs′ m′ r
 
 module _ {map rs m : List ℕ} {h : Hot} {w : ℕ} {rs′ m′ : List ℕ} {r : Hot} where
   pub stopped : Tells map rs m h w rs′ m′ r → r .cost ≡ 0 → (rs′ ≡ rs) × (m′ ≡ m)
@@ -28,7 +28,7 @@ module _ {map rs m : List ℕ} {h : Hot} {w : ℕ} {rs′ m′ : List ℕ} {r : 
   stopped (done l k s f) e = absurd (omega arith)
 
   pub carried :
-      Tells map rs m h w rs′ m′ r → (r .cost ≡ 0 → ⊥) → (b : State) → Mapped b map
+      Tells map rs m h w rs′ m′ r → (r .cost ≡ 0 → ⊥) → (b : State) → MapOf b map
       → Does b rs h m w rs′ (r .pc) (r .v) (r .c) (r .s) (r .z) m′ (r .cost)
   carried (stop z p q) n = absurd (n z)
   carried (done l k s f) n = f

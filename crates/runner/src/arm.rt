@@ -8,9 +8,9 @@ ghost use Rattle.runner.specs.Rows.{addCost, loadCost};
 ghost use Rattle.runner.specs.Sources.{modeOf};
 ghost use Rattle.runner.specs.Tells.{Divided, Operates};
 use crate::Hot;
-use crate::access::NONE;
 use crate::source::Source;
 use decode::code;
+use pages::NONE;
 use word::Alu;
 use word::Test;
 

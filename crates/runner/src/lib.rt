@@ -1,10 +1,9 @@
 // The runner: a second tier above the machine. Plain instructions are carried out on PC, the arithmetic flags and the registers alone; every
 // other step is the machine's.
-mod access;
 mod ahead;
 mod arm;
-mod map;
 mod quick;
+mod register;
 mod running;
 mod source;
 mod turn;

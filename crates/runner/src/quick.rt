@@ -5,8 +5,8 @@ ghost use lib.ListN.{length};
 ghost use Rattle.runner.specs.Goes.{Leads};
 use crate::Hot;
 use crate::Stretch;
-use crate::access::NONE;
-use crate::access::fetch;
+use pages::NONE;
+use pages::fetch;
 
 // Plain instructions, at most `allowance`, up to one that is not.
 pub fn quick(

@@ -5,11 +5,11 @@ ghost use lib.ListN.{length};
 ghost use Rattle.decode.specs.Decode.{rxField};
 ghost use Rattle.runner.specs.Accesses.{IndexedPlace, shortOf};
 ghost use Rattle.runner.specs.Sources.{SourceIs, framePlace};
-use crate::access::NONE;
-use crate::access::fetch;
-use crate::access::read_byte;
-use crate::access::read_word;
-use crate::access::register;
+use crate::register::register;
+use pages::NONE;
+use pages::fetch;
+use pages::read_byte;
+use pages::read_word;
 use word::plus;
 
 // An operand: its value, the address of the following instruction, and the states with ADD.

@@ -3,7 +3,7 @@
 use mathlib.Core.Path.{refl}
 use native.Mathlib.Omega.{arith}
 use borrow.Author.Needs.{needs}
-use Rattle.runner.specs.Accesses.{not-wrote, wrote}
+use Rattle.pages.specs.Accesses.{not-wrote, wrote}
 use Rattle.runner.specs.Moves.{call-tells}
 use Rattle.runner.specs.Tells.{stop}
 use Rattle.runner.proofs.Hot.call.Statement.{statement}

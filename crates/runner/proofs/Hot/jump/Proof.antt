@@ -6,7 +6,7 @@ use borrow.Author.Needs.{needs}
 use Rattle.mmu.specs.Memory.{wordAt}
 use Rattle.mmu.specs.declared.Right.the-variants.{Execute}
 use Rattle.word.specs.Word.{plus}
-use Rattle.runner.specs.Accesses.{WordRead}
+use Rattle.pages.specs.Accesses.{WordRead}
 use Rattle.runner.specs.Moves.{jump-tells, pass-tells}
 use Rattle.runner.specs.Tells.{stop}
 use Rattle.runner.proofs.Hot.jump.Statement.{statement}

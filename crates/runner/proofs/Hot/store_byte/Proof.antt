@@ -2,7 +2,7 @@
 -- Assumes nothing.
 use mathlib.Core.Path.{refl}
 use borrow.Author.Needs.{needs}
-use Rattle.runner.specs.Accesses.{not-wrote-byte, wrote-byte}
+use Rattle.pages.specs.Accesses.{not-wrote-byte, wrote-byte}
 use Rattle.runner.specs.Moves.{goes, stays}
 use Rattle.runner.proofs.Hot.store_byte.Statement.{statement}
 use Rattle.runner.proofs.Hot.store_byte.Tie as tie
