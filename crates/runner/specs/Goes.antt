@@ -7,7 +7,7 @@ use Prim.Native.Nat.{suc, ℕ, _+_}
 use native.Mathlib.Nat.{add-zero}
 use native.Mathlib.Omega.{arith}
 use Rattle.machine.specs.Plan.{interrupted}
-use Rattle.machine.specs.Run.{runFrom, throughFrom}
+use Rattle.machine.specs.Run.{runFrom}
 use Rattle.machine.specs.Step.{stepOf}
 use Rattle.machine.specs.declared.Condition.the-variants.{Running}
 use Rattle.machine.specs.declared.State.{State}
@@ -31,11 +31,6 @@ on : (left : ℕ) (st st′ : State) (m m′ : List ℕ) (k t n : ℕ) → st .c
 unfolding runFrom
 on left st st′ m m′ k t n c e = rw (e, c)
 
-through : (left : ℕ) (st st′ : State) (m m′ : List ℕ) (k t n : ℕ) → st .condition ≡ Running → stepOf st m ≡ did st′ m′ n
-    → throughFrom (suc left) st m k t ≡ throughFrom left st′ m′ (k + 1) (t + n)
-unfolding throughFrom
-through left st st′ m m′ k t n c e = rw (e, c)
-
 pub goes-run :
     {st st′ : State} {m m′ : List ℕ} {steps states : ℕ} → Goes st m steps states st′ m′ → (left k t : ℕ)
     → runFrom (left + steps) st m k t ≡ runFrom left st′ m′ (k + steps) (t + states)
@@ -45,16 +40,6 @@ goes-run {st} {m} (more {steps} {states} {n} {st′} {st″} {m′} {m″} g c e
     let x : k + steps + 1 ≡ k + (steps + 1) = omega arith in
     let y : t + states + n ≡ t + (states + n) = omega arith in
     ap (λ (q : ℕ). runFrom q st m k t) a ∙ goes-run g (suc left) k t ∙ on left st′ st″ m′ m″ (k + steps) (t + states) n c e ∙ rw (x, y)
-
-pub goes-through :
-    {st st′ : State} {m m′ : List ℕ} {steps states : ℕ} → Goes st m steps states st′ m′ → (left k t : ℕ)
-    → throughFrom (left + steps) st m k t ≡ throughFrom left st′ m′ (k + steps) (t + states)
-goes-through none left k t = rw (add-zero left, add-zero k, add-zero t)
-goes-through {st} {m} (more {steps} {states} {n} {st′} {st″} {m′} {m″} g c e) left k t =
-    let a : left + (steps + 1) ≡ suc left + steps = omega arith in
-    let x : k + steps + 1 ≡ k + (steps + 1) = omega arith in
-    let y : t + states + n ≡ t + (states + n) = omega arith in
-    ap (λ (q : ℕ). throughFrom q st m k t) a ∙ goes-through g (suc left) k t ∙ through left st′ st″ m′ m″ (k + steps) (t + states) n c e ∙ rw (x, y)
 
 -- ---- the loop
 
