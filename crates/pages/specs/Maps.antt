@@ -16,11 +16,14 @@ use Rattle.mmu.specs.Entry.{frameIn, pageIn, valid}
 use Rattle.mmu.specs.Grants.{even-word, plain-granted, served-marked, translated}
 use Rattle.mmu.specs.Lookup.{holds, lookupFrom, lookupOf}
 use Rattle.mmu.specs.Marks.{usable-marked, usableIn}
+use Rattle.mmu.specs.declared.Accessed.{Accessed}
 use Rattle.mmu.specs.declared.Lookup.{Lookup}
 use Rattle.mmu.specs.declared.Lookup.the-variants.{Entry, Missing}
 use Rattle.mmu.specs.declared.Right.{Right}
 use Rattle.mmu.specs.declared.Right.the-variants.{Execute, Read, Write}
 use Rattle.word.specs.Word.{bit, isSet, joined, lower, upper}
+use Rattle.pages.specs.declared.Width.{Width}
+use Rattle.pages.specs.declared.Width.the-variants.{Byte, Word}
 
 -- the bit of a right
 abbrev pub mapBit : Right → ℕ
@@ -35,22 +38,40 @@ lowest-bit x = let e : x % 2 ≡ bit 0 x = omega arith in rw e
 abbrev pub placeIn : List ℕ → ℕ → ℕ
 placeIn map a = joined (upper (getD map (upper a) 0)) (lower a)
 
+-- how many bytes are accessed, and the access
+abbrev pub bytesOf : Width → ℕ
+bytesOf Byte = 1
+bytesOf Word = 2
+
+pub some-bytes : (width : Width) → 0 < bytesOf width
+some-bytes Byte = omega arith
+some-bytes Word = omega arith
+
+abbrev pub accessOf : Width → Bool → List ℕ → Right → ℕ → Accessed
+accessOf Byte = byteAccess
+accessOf Word = wordAccess
+
 -- a map of the pages, with translation on or off and this TLB
 pub record Mapped (on : Bool) (tlb map : List ℕ) : Type 0 where
   pub grants :
       (right : Right) (a : ℕ) → a < 65536 → isSet (mapBit right) (getD map (upper a) 0) ≡ true → byteAccess on tlb right a ≡ granted (placeIn map a) tlb
 
 -- a place that the map gives
-pub record Placed (map : List ℕ) (right : Right) (a at : ℕ) : Type 0 where
+pub record Placed (map : List ℕ) (right : Right) (width : Width) (a at : ℕ) : Type 0 where
+  pub below : a < 65536
+  pub aligned : a % bytesOf width ≡ 0
   pub granted : isSet (mapBit right) (getD map (upper a) 0) ≡ true
   pub place : at ≡ placeIn map a
 
-module _ {on : Bool} {tlb map : List ℕ} (maps : Mapped on tlb map) {right : Right} {a at : ℕ} (below : a < 65536) (p : Placed map right a at) where
-  pub byte-granted : byteAccess on tlb right a ≡ granted at tlb
-  byte-granted = rw (p .place) (maps .grants right a below (p .granted))
+-- a word's place is that of its first byte
+pub word-placed : {map : List ℕ} {right : Right} {a at : ℕ} → Placed map right Byte a at → a % 2 ≡ 0 → Placed map right Word a at
+word-placed p even = record { below = p .below; aligned = even; granted = p .granted; place = p .place }
 
-  pub word-granted : a % 2 ≡ 0 → wordAccess on tlb right a ≡ granted at tlb
-  word-granted even = even-word tlb right a on even ∙ byte-granted
+pub access-granted :
+    {on : Bool} {tlb map : List ℕ} {right : Right} {width : Width} {a at : ℕ} → Mapped on tlb map → Placed map right width a at
+    → accessOf width on tlb right a ≡ granted at tlb
+access-granted {right} {width = Byte} {a} maps p = rw (p .place) (maps .grants right a (p .below) (p .granted))
+access-granted {on} {tlb} {right} {width = Word} {a} maps p = rw (p .place) (even-word tlb right a on (p .aligned) ∙ maps .grants right a (p .below) (p .granted))
 
 -- ---- nothing is translated
 

@@ -4,9 +4,12 @@ ghost use Prim.Native.Nat.{_%_, _<_};
 ghost use lib.ListN.{length};
 ghost use Rattle.mmu.specs.Memory.{wordAt};
 ghost use Rattle.mmu.specs.declared.Right.the-variants as right;
-ghost use Rattle.pages.specs.Accesses.{ByteRead, ByteWritten, WordRead, WordWritten};
+ghost use Rattle.pages.specs.Accesses.{Reads, Writes};
+ghost use Rattle.pages.specs.Maps.{Placed, bytesOf};
+ghost use Rattle.pages.specs.declared.Width.the-variants as width;
 use crate::NONE;
 use crate::NOWHERE;
+use crate::Width;
 use crate::map::place;
 use mmu::Right;
 
@@ -21,7 +24,7 @@ pub fn word_at(mem: &[u8], i: usize) -> u32
 // The word that is fetched from an even address.
 pub fn fetch(map: &[u16; 256], mem: &[u8], a: u16) -> u32
     requires { ⌜ (length (now mem) ≡ 65536) × (a % 2 ≡ 0) ⌝ }
-    ensures { λ r. ⌜ (r < 65536 → WordRead (now (map .entry)) (now (mem .entry)) right.Execute a r) ⌝ }
+    ensures { λ r. ⌜ (r < 65536 → Reads (now (map .entry)) (now (mem .entry)) right.Execute width.Word a r) ⌝ }
 {
     let i = place(map, Right::Execute, a);
     if NOWHERE <= i {
@@ -30,69 +33,61 @@ pub fn fetch(map: &[u16; 256], mem: &[u8], a: u16) -> u32
     word_at(mem, i)
 }
 
-// The word at an address, where that is one.
-pub fn read_word(map: &[u16; 256], mem: &[u8], a: u32) -> u32
-    requires { ⌜ length (now mem) ≡ 65536 ⌝ }
-    ensures { λ r. ⌜ (r < 65536 → WordRead (now (map .entry)) (now (mem .entry)) right.Read a r) ⌝ }
+fn bytes(width: Width) -> u32
+    ensures { λ r. ⌜ r ≡ bytesOf width ⌝ }
+{
+    match width {
+        Width::Byte => 1,
+        Width::Word => 2,
+    }
+}
+
+// The place of an operand, where its address is one: no word is at an odd address.
+fn operand_place(map: &[u16; 256], right: Right, width: Width, a: u32) -> usize
+    ensures { λ r. ⌜ (r < 65536 → Placed (now (map .entry)) right width a r) ⌝ }
 {
     if NONE <= a {
-        return NONE;
+        return NOWHERE;
     }
-    if a % 2 == 1 {
-        return NONE;
+    let size = bytes(width);
+    if a % size != 0 {
+        return NOWHERE;
     }
-    let i = place(map, Right::Read, a as u16);
+    place(map, right, a as u16)
+}
+
+// What an address holds.
+pub fn read(map: &[u16; 256], mem: &[u8], width: Width, a: u32) -> u32
+    requires { ⌜ length (now mem) ≡ 65536 ⌝ }
+    ensures { λ r. ⌜ (r < 65536 → Reads (now (map .entry)) (now (mem .entry)) right.Read width a r) ⌝ }
+{
+    let i = operand_place(map, Right::Read, width, a);
     if NOWHERE <= i {
         return NONE;
     }
-    word_at(mem, i)
+    match width {
+        Width::Byte => mem[i] as u32,
+        Width::Word => word_at(mem, i),
+    }
 }
 
-pub fn read_byte(map: &[u16; 256], mem: &[u8], a: u32) -> u32
+// A value written, where its address is a place; of a byte the lower half.
+pub fn write(map: &[u16; 256], mem: &mut [u8], width: Width, a: u32, v: u16) -> bool
     requires { ⌜ length (now mem) ≡ 65536 ⌝ }
-    ensures { λ r. ⌜ (r < 65536 → ByteRead (now (map .entry)) (now (mem .entry)) a r) ⌝ }
+    ensures { λ r. ⌜ Writes (now (map .entry)) (now (mem .entry)) width a v (now (mem .exit)) r ⌝ }
 {
-    if NONE <= a {
-        return NONE;
-    }
-    let i = place(map, Right::Read, a as u16);
-    if NOWHERE <= i {
-        return NONE;
-    }
-    mem[i] as u32
-}
-
-// A word written, where its address is one.
-pub fn write_word(map: &[u16; 256], mem: &mut [u8], a: u32, v: u16) -> bool
-    requires { ⌜ length (now mem) ≡ 65536 ⌝ }
-    ensures { λ r. ⌜ WordWritten (now (map .entry)) (now (mem .entry)) a v (now (mem .exit)) r ⌝ }
-{
-    if NONE <= a {
-        return false;
-    }
-    if a % 2 == 1 {
-        return false;
-    }
-    let i = place(map, Right::Write, a as u16);
+    let i = operand_place(map, Right::Write, width, a);
     if NOWHERE <= i {
         return false;
     }
-    mem[i] = (v / 256) as u8;
-    mem[i + 1] = (v % 256) as u8;
-    true
-}
-
-pub fn write_byte(map: &[u16; 256], mem: &mut [u8], a: u32, v: u16) -> bool
-    requires { ⌜ length (now mem) ≡ 65536 ⌝ }
-    ensures { λ r. ⌜ ByteWritten (now (map .entry)) (now (mem .entry)) a v (now (mem .exit)) r ⌝ }
-{
-    if NONE <= a {
-        return false;
+    match width {
+        Width::Byte => {
+            mem[i] = (v % 256) as u8;
+        }
+        Width::Word => {
+            mem[i] = (v / 256) as u8;
+            mem[i + 1] = (v % 256) as u8;
+        }
     }
-    let at = place(map, Right::Write, a as u16);
-    if NOWHERE <= at {
-        return false;
-    }
-    mem[at] = (v % 256) as u8;
     true
 }

@@ -3,13 +3,17 @@ mod access;
 mod map;
 
 pub use access::fetch;
-pub use access::read_byte;
-pub use access::read_word;
+pub use access::read;
 pub use access::word_at;
-pub use access::write_byte;
-pub use access::write_word;
+pub use access::write;
 pub use map::page_map;
 pub use map::place;
+
+// What is accessed.
+pub enum Width {
+    Byte,
+    Word,
+}
 
 // No word: beyond every word.
 pub const NONE: u32 = 65536;

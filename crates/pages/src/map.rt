@@ -6,6 +6,7 @@ ghost use Rattle.mmu.specs.Entry.{pageIn};
 ghost use Rattle.mmu.specs.Marks.{usableIn};
 ghost use Rattle.word.specs.Word.{isSet, joined, lower, upper};
 ghost use Rattle.pages.specs.Maps.{Mapped, Placed, SelfTo, ShowsFrom, mapBit, shownOf};
+ghost use Rattle.pages.specs.declared.Width.the-variants as width;
 use crate::NOWHERE;
 use mmu::Right;
 
@@ -100,7 +101,7 @@ fn physical(shown: u16, a: u16) -> usize
 
 // The physical address, where the map gives the access.
 pub fn place(map: &[u16; 256], right: Right, a: u16) -> usize
-    ensures { λ r. ⌜ (r < 65536 → Placed (now (map .entry)) right a r) ⌝ }
+    ensures { λ r. ⌜ (r < 65536 → Placed (now (map .entry)) right width.Byte a r) ⌝ }
 {
     let shown = map[(a / 256) as usize];
     if is_open(right, shown) {

@@ -12,8 +12,9 @@ use lib.ListN.{getD}
 use Rattle.decode.specs.Decode.{rxField}
 use Rattle.machine.specs.declared.State.{State}
 use Rattle.mmu.specs.declared.Right.the-variants.{Execute}
-use Rattle.pages.specs.Accesses.{WordRead}
-use Rattle.pages.specs.Maps.{word-granted}
+use Rattle.pages.specs.Accesses.{Reads}
+use Rattle.pages.specs.Maps.{access-granted}
+use Rattle.pages.specs.declared.Width.the-variants.{Word}
 use Rattle.word.specs.Signed.{signed4, word}
 use Rattle.word.specs.Word.{plus}
 use Rattle.runner.specs.Fetch.{MapOf}
@@ -27,9 +28,9 @@ pub record RegRead (rs : List ℕ) (n x : ℕ) : Type 0 where
   pub low : n < 14
   pub value : x ≡ getD rs n 0
 
-pub second-of : (b : State) (rs m : List ℕ) (h : Hot) (map : List ℕ) {x : ℕ} → MapOf b map → WordRead map m Execute (plus (h .pc) 2) x → Second (hotState b rs h) m x
+pub second-of : (b : State) (rs m : List ℕ) (h : Hot) (map : List ℕ) {x : ℕ} → MapOf b map → Reads map m Execute Word (plus (h .pc) 2) x → Second (hotState b rs h) m x
 second-of b rs m h map maps r =
-    record { at = r .at; grants = word-granted maps (r .below) (r .placed) (r .even); value = r .value }
+    record { at = r .at; grants = access-granted maps (r .placed); value = r .value }
 
 -- ---- signed fields
 

@@ -12,8 +12,9 @@ use Rattle.machine.specs.Step.{stepOf}
 use Rattle.machine.specs.declared.Condition.the-variants.{Running}
 use Rattle.machine.specs.declared.State.{State}
 use Rattle.mmu.specs.declared.Right.the-variants.{Execute}
-use Rattle.pages.specs.Accesses.{WordRead}
-use Rattle.pages.specs.Maps.{word-granted}
+use Rattle.pages.specs.Accesses.{Reads}
+use Rattle.pages.specs.Maps.{access-granted}
+use Rattle.pages.specs.declared.Width.the-variants.{Word}
 use Rattle.runner.specs.Fetch.{MapOf, begins, did}
 use Rattle.runner.specs.Hot.{hotState}
 use Rattle.runner.specs.Tells.{Tells, carried, stopped}
@@ -57,13 +58,13 @@ no-step = record { goes = λ b ready maps. none }
 
 module _ {map rs m : List ℕ} {h : Hot} {steps states : ℕ} {rs′ m′ : List ℕ} {h′ : Hot} (l : Leads map rs m h steps states rs′ m′ h′) where
   pub one-more :
-      {w : ℕ} {rs″ m″ : List ℕ} {r : Hot} → WordRead map m′ Execute (h′ .pc) w → Tells map rs′ m′ h′ w rs″ m″ r → (r .cost ≡ 0 → ⊥)
+      {w : ℕ} {rs″ m″ : List ℕ} {r : Hot} → Reads map m′ Execute Word (h′ .pc) w → Tells map rs′ m′ h′ w rs″ m″ r → (r .cost ≡ 0 → ⊥)
       → Leads map rs m h (steps + 1) (states + r .cost) rs″ m″ r
   one-more {w} f t n =
       record {
         goes = λ b ready maps.
             more (l .goes b ready maps) (ready .running)
-            (begins (hotState b rs′ h′) m′ (f .at) w (ready .calm) (word-granted maps (f .below) (f .placed) (f .even)) (f .value) ∙ carried t n b maps);
+            (begins (hotState b rs′ h′) m′ (f .at) w (ready .calm) (access-granted maps (f .placed)) (f .value) ∙ carried t n b maps);
       }
 
   pub no-more :

@@ -6,24 +6,25 @@ use mathlib.Core.Path.{refl, sym, _∙_, _≡_}
 use Prim.Native.Nat.{suc, zero, ℕ, _%_, _*_, _+_, _/_, _<_}
 use native.Mathlib.Omega.{arith}
 use lib.ListN.{getD, length, length-set, set}
-use Rattle.decode.specs.Code.{CALL, JUMP, ST}
+use Rattle.decode.specs.Code.{CALL, JUMP, NO, PUSH, RET, ST}
 use Rattle.decode.specs.Decode.{rdField, rxField, usesRx}
 use Rattle.decode.specs.Instructions.{addStates, condition, costOf, divStates, eight, inModes, inRows, modeBits, opcodeOf, register, row, rows, shiftStates, single, statesAt, unused}
 use Rattle.decode.specs.declared.DataAccess.the-variants as data-access
 use Rattle.decode.specs.declared.Flow.the-variants as flow
 use Rattle.machine.specs.Plan.{holds}
-use Rattle.machine.specs.declared.Need.the-variants.{ReadByte, ReadWord, WriteByte, WriteWord}
 use Rattle.machine.specs.declared.State.{State}
 use Rattle.mmu.specs.declared.Right.the-variants.{Execute, Read}
-use Rattle.pages.specs.Accesses.{WordRead, Wrote, WroteByte}
-use Rattle.pages.specs.Maps.{byte-granted, word-granted}
+use Rattle.pages.specs.Accesses.{Reads, Wrote}
+use Rattle.pages.specs.Maps.{access-granted}
+use Rattle.pages.specs.declared.Width.{Width}
+use Rattle.pages.specs.declared.Width.the-variants.{Word}
 use Rattle.word.specs.Jump.{conditionOf}
 use Rattle.word.specs.Word.{minus, plus, upper}
 use Rattle.runner.specs.Accesses.{RegRead, second-of}
 use Rattle.runner.specs.Hot.{hotState, reg-hot}
 use Rattle.runner.specs.Operands as operands
 use Rattle.runner.specs.Operands.{Addressed, Second}
-use Rattle.runner.specs.Operations.{RxFine, call-does, jump-does, no-does, pass-does, pop-does, push-does, ret-does, rx-low, rx-unused, store-byte-does, store-does}
+use Rattle.runner.specs.Operations.{RxFine, call-does, jump-does, no-does, pass-does, pop-does, push-does, ret-does, rx-low, rx-unused, store-does}
 use Rattle.runner.specs.Rows.{Opens, opens}
 use Rattle.runner.specs.Sources.{Named, modeOf}
 use Rattle.runner.specs.Tells.{Tells, done, stop}
@@ -35,17 +36,11 @@ pub data Added (rs : List ℕ) (mode w r : ℕ) : Type 0 where
   one : (mode ≡ 0 → ⊥) → RegRead rs (w % 16) r → Added rs mode w r
 
 -- Rd stored at an address, and on to the next instruction
-pub data Stored (map rs m : List ℕ) (h : Hot) (w a next cost : ℕ) (m′ : List ℕ) (r : Hot) : Type 0 where
-  stays : r .cost ≡ 0 → m′ ≡ m → Stored map rs m h w a next cost m′ r
+pub data Stored (map rs m : List ℕ) (h : Hot) (w : ℕ) (width : Width) (a next cost : ℕ) (m′ : List ℕ) (r : Hot) : Type 0 where
+  stays : r .cost ≡ 0 → m′ ≡ m → Stored map rs m h w width a next cost m′ r
   goes :
       r ≡ record { pc = next; v = h .v; c = h .c; s = h .s; z = h .z; cost = cost } → rdField w < 14
-      → Wrote map m a (getD rs (rdField w) 0) m′ → Stored map rs m h w a next cost m′ r
-
-pub data StoredByte (map rs m : List ℕ) (h : Hot) (w a next cost : ℕ) (m′ : List ℕ) (r : Hot) : Type 0 where
-  stays : r .cost ≡ 0 → m′ ≡ m → StoredByte map rs m h w a next cost m′ r
-  goes :
-      r ≡ record { pc = next; v = h .v; c = h .c; s = h .s; z = h .z; cost = cost } → rdField w < 14
-      → WroteByte map m a (getD rs (rdField w) 0) m′ → StoredByte map rs m h w a next cost m′ r
+      → Wrote map m width a (getD rs (rdField w) 0) m′ → Stored map rs m h w width a next cost m′ r
 
 -- ---- the first bytes
 
@@ -86,7 +81,7 @@ added-fine {mode} {w} (one n r) = rx-low mode w (r .low)
 
 module _ (b : State) (rs m : List ℕ) (h : Hot) (w : ℕ) {mode : ℕ} (small : mode < 2) (d next : ℕ) (s : Second (hotState b rs h) m d) (n : next ≡ plus (h .pc) 4) where
   abbrev At : ℕ → Type 0
-  At a = Addressed (hotState b rs h) m w mode a next ReadWord WriteWord
+  At a = Addressed (hotState b rs h) m w mode a next Word
 
   target : {add : ℕ} → Added rs mode w add → d < 65536 → (a : ℕ) → a ≡ plus d add → At a
   target {add} (none e z) l a q = let k : a ≡ d = omega arith in rw (e, k) (operands.direct (hotState b rs h) m w d next s n)
@@ -109,8 +104,8 @@ module _ (map rs : List ℕ) (size : length rs ≡ 16) (m : List ℕ) (h : Hot) 
   at-thirteen : (x : ℕ) → length (set rs 13 x) ≡ 16
   at-thirteen x = length-set rs 13 x ∙ size
 
-  module _ {add : ℕ} (small : modeOf w < 2) (ad : Added rs (modeOf w) w add) (d : ℕ) (fetched : WordRead map m Execute (plus (h .pc) 2) d) where
-    module _ (code : w / 2048 ≡ 20) (n : rdField w ≡ 13 → ⊥) where
+  module _ {add : ℕ} (small : modeOf w < 2) (ad : Added rs (modeOf w) w add) (d : ℕ) (fetched : Reads map m Execute Word (plus (h .pc) 2) d) where
+    module _ (code : w / 2048 ≡ JUMP) (n : rdField w ≡ 13 → ⊥) where
       pub jump-tells : d < 65536 → (a : ℕ) → a ≡ plus d add → holds (conditionOf (rdField w) (h .v) (h .c) (h .s) (h .z)) ≡ true → Tells map rs m h w rs m (to a 5)
       jump-tells l a q t =
           done (omega arith) (omega arith) size (λ b maps.
@@ -122,55 +117,46 @@ module _ (map rs : List ℕ) (size : length rs ≡ 16) (m : List ℕ) (h : Hot) 
           pass-does b rs size h m w (omega arith) (added-fine ad) (some-target b rs m h w small d next (second-of b rs m h map maps fetched) q ad .1) (opens-jump (modeOf w) small) n t)
 
     pub call-tells :
-        w / 2048 ≡ 21 → d < 65536 → (a : ℕ) → a ≡ plus d add → (next : ℕ) → next ≡ plus (h .pc) 4 → (sp : ℕ) → sp ≡ minus (getD rs 13 0) 2
-        → {m′ : List ℕ} → Wrote map m sp next m′ → Tells map rs m h w (set rs 13 sp) m′ (to a 6)
+        w / 2048 ≡ CALL → d < 65536 → (a : ℕ) → a ≡ plus d add → (next : ℕ) → next ≡ plus (h .pc) 4 → (sp : ℕ) → sp ≡ minus (getD rs 13 0) 2
+        → {m′ : List ℕ} → Wrote map m Word sp next m′ → Tells map rs m h w (set rs 13 sp) m′ (to a 6)
     call-tells code l a q next k sp e x =
         done (omega arith) (omega arith) (at-thirteen sp) (λ b maps.
         rw (x .memory)
         (call-does b rs size h m w (omega arith) (added-fine ad) (target b rs m h w small d next (second-of b rs m h map maps fetched) k ad l a q)
-        (opens-call (modeOf w) small) sp (x .at) e (word-granted maps (x .below) (x .placed) (x .even))))
+        (opens-call (modeOf w) small) sp (x .at) e (access-granted maps (x .placed))))
 
   module _ (next : ℕ) (n : next ≡ plus (h .pc) 2) where
-    pub no-tells : upper w ≡ 0 → Tells map rs m h w rs m (to next 3)
+    pub no-tells : upper w ≡ NO * 8 → Tells map rs m h w rs m (to next 3)
     no-tells e = done (omega arith) (omega arith) size (λ b maps. no-does b rs size h m w next n e)
 
     pub push-tells :
-        upper w ≡ 192 → rdField w < 14 → (sp : ℕ) → sp ≡ minus (getD rs 13 0) 2 → {m′ : List ℕ} → Wrote map m sp (getD rs (rdField w) 0) m′
+        upper w ≡ PUSH * 8 → rdField w < 14 → (sp : ℕ) → sp ≡ minus (getD rs 13 0) 2 → {m′ : List ℕ} → Wrote map m Word sp (getD rs (rdField w) 0) m′
         → Tells map rs m h w (set rs 13 sp) m′ (to next 5)
     push-tells e low sp q x =
         done (omega arith) (omega arith) (at-thirteen sp) (λ b maps.
-        rw (x .memory) (push-does b rs size h m w next n e low sp (x .at) q (word-granted maps (x .below) (x .placed) (x .even))))
+        rw (x .memory) (push-does b rs size h m w next n e low sp (x .at) q (access-granted maps (x .placed))))
 
     pub pop-tells :
-        upper w ≡ 196 → rdField w < 14 → (sp x : ℕ) → sp ≡ plus (getD rs 13 0) 2 → WordRead map m Read (getD rs 13 0) x
+        upper w ≡ PUSH * 8 + 4 → rdField w < 14 → (sp x : ℕ) → sp ≡ plus (getD rs 13 0) 2 → Reads map m Read Word (getD rs 13 0) x
         → Tells map rs m h w (set (set rs 13 sp) (rdField w) x) m (to next 6)
     pop-tells e low sp x q r =
         done (omega arith) (omega arith) (length-set (set rs 13 sp) (rdField w) x ∙ at-thirteen sp) (λ b maps.
-        pop-does b rs size h m w next n e low (r .at) sp x (word-granted maps (r .below) (r .placed) (r .even)) (r .value) q)
+        pop-does b rs size h m w next n e low (r .at) sp x (access-granted maps (r .placed)) (r .value) q)
 
   pub ret-tells :
-      upper w ≡ 208 → (sp x : ℕ) → sp ≡ plus (getD rs 13 0) 2 → WordRead map m Read (getD rs 13 0) x → Tells map rs m h w (set rs 13 sp) m (to x 6)
+      upper w ≡ RET * 8 → (sp x : ℕ) → sp ≡ plus (getD rs 13 0) 2 → Reads map m Read Word (getD rs 13 0) x → Tells map rs m h w (set rs 13 sp) m (to x 6)
   ret-tells e sp x q r =
       done (omega arith) (omega arith) (at-thirteen sp) (λ b maps.
-      ret-does b rs size h m w _ refl e (r .at) sp x (word-granted maps (r .below) (r .placed) (r .even)) (r .value) q)
+      ret-does b rs size h m w _ refl e (r .at) sp x (access-granted maps (r .placed)) (r .value) q)
 
   -- ---- ST
 
-  module _ (code : w / 2048 ≡ 2) (mode : ℕ) (is : modeOf w ≡ mode) {cost : ℕ} (s : Stores mode cost) (above : 0 < cost) (below : cost < 65536) where
+  module _ (code : w / 2048 ≡ ST) (mode : ℕ) (is : modeOf w ≡ mode) {cost : ℕ} (s : Stores mode cost) (above : 0 < cost) (below : cost < 65536) where
     pub store-tells :
-        {m′ : List ℕ} {r : Hot} {a next : ℕ} → (a < 65536 → Named rs map m (h .pc) w mode a next ReadWord WriteWord)
-        → Stored map rs m h w a next cost m′ r → Tells map rs m h w rs m′ r
+        {width : Width} {m′ : List ℕ} {r : Hot} {a next : ℕ} → (a < 65536 → Named rs map m (h .pc) w mode a next width)
+        → Stored map rs m h w width a next cost m′ r → Tells map rs m h w rs m′ r
     store-tells named (stays z p) = stop z refl p
-    store-tells named (goes e low x) =
-        let p = named (x .below) in
+    store-tells {width} named (goes e low x) =
+        let p = named (x .placed .below) in
         rw e (done above below size (λ b maps.
-        rw (x .memory) (store-does b rs size h m w low (omega arith) (p .fine) (opens-store s) (p .addressed b maps h refl) (x .at) (word-granted maps (x .below) (x .placed) (x .even)))))
-
-    pub store-byte-tells :
-        {m′ : List ℕ} {r : Hot} {a next : ℕ} → (a < 65536 → Named rs map m (h .pc) w mode a next ReadByte WriteByte)
-        → StoredByte map rs m h w a next cost m′ r → Tells map rs m h w rs m′ r
-    store-byte-tells named (stays z p) = stop z refl p
-    store-byte-tells named (goes e low x) =
-        let p = named (x .below) in
-        rw e (done above below size (λ b maps.
-        rw (x .memory) (store-byte-does b rs size h m w low (omega arith) (p .fine) (opens-store s) (p .addressed b maps h refl) (x .at) (byte-granted maps (x .below) (x .placed)))))
+        rw (x .memory) (store-does b rs size h m w low (omega arith) (p .fine) (opens-store s) width (p .addressed b maps h refl) (x .at) (access-granted maps (x .placed)))))

@@ -15,9 +15,13 @@ use Rattle.machine.specs.Transfer.{loaded, transferOf}
 use Rattle.machine.specs.declared.Need.{Need}
 use Rattle.machine.specs.declared.Need.the-variants.{ReadByte, ReadWord, WriteByte, WriteWord}
 use Rattle.machine.specs.declared.State.{State}
-use Rattle.mmu.specs.Access.{byteAccess, granted}
-use Rattle.mmu.specs.Memory.{byteAt, wordAt}
+use Rattle.mmu.specs.Access.{granted}
+use Rattle.mmu.specs.Memory.{wordAt}
 use Rattle.mmu.specs.declared.Right.the-variants.{Execute, Read}
+use Rattle.pages.specs.Accesses.{readAt}
+use Rattle.pages.specs.Maps.{accessOf}
+use Rattle.pages.specs.declared.Width.{Width}
+use Rattle.pages.specs.declared.Width.the-variants.{Byte, Word}
 use Rattle.word.specs.Signed.{signed4, word}
 use Rattle.word.specs.Word.{plus}
 use Rattle.runner.specs.Fetch.{Grants, instruction, one-word, two-words}
@@ -32,13 +36,22 @@ pub record Second (st : State) (m : List ℕ) (x : ℕ) : Type 0 where
 abbrev pub Reached : State → List ℕ → ℕ → ℕ → Operand → ℕ → Type 0
 Reached st m w mode x next = (r : Row) → planSecond st m (shapeOf r mode w) ≡ planOperand st m (instruction r mode w x) next
 
+-- what is asked of memory, by the width
+abbrev pub readNeed : Width → ℕ → Need
+readNeed Byte = ReadByte
+readNeed Word = ReadWord
+
+abbrev pub writeNeed : Width → ℕ → Need
+writeNeed Byte = WriteByte
+writeNeed Word = WriteWord
+
 -- an operand with an address
-pub record Addressed (st : State) (m : List ℕ) (w mode a next : ℕ) (read write : ℕ → Need) : Type 0 where
+pub record Addressed (st : State) (m : List ℕ) (w mode a next : ℕ) (width : Width) : Type 0 where
   pub operand : Operand
   pub reached : Reached st m w mode operand next
   pub address : addressOf (regOf st) operand ≡ a
-  pub loads : (reg : ℕ → ℕ) (a : ℕ) → loadNeed reg a operand ≡ read a
-  pub stores : (a : ℕ) → storeNeed a operand ≡ write a
+  pub loads : (reg : ℕ → ℕ) (a : ℕ) → loadNeed reg a operand ≡ readNeed width a
+  pub stores : (a : ℕ) → storeNeed a operand ≡ writeNeed width a
 
 -- an operand whose value is x
 pub record Sourced (st : State) (m : List ℕ) (w mode x next : ℕ) : Type 0 where
@@ -52,7 +65,7 @@ pub record Sourced (st : State) (m : List ℕ) (w mode x next : ℕ) : Type 0 wh
 module _ (st : State) (m : List ℕ) (w : ℕ) where
   -- ---- addresses
 
-  pub direct : (d next : ℕ) → Second st m d → next ≡ plus (st .pc) 4 → Addressed st m w 0 d next ReadWord WriteWord
+  pub direct : (d next : ℕ) → Second st m d → next ≡ plus (st .pc) 4 → Addressed st m w 0 d next Word
   unfolding hasSecond operandOf addressOf loadNeed storeNeed
   direct d next s n =
       record {
@@ -65,7 +78,7 @@ module _ (st : State) (m : List ℕ) (w : ℕ) where
 
   pub indexed :
       (d x a next : ℕ) → Second st m d → x ≡ regOf st (rxField w) → a ≡ plus d x → next ≡ plus (st .pc) 4
-      → Addressed st m w 1 a next ReadWord WriteWord
+      → Addressed st m w 1 a next Word
   unfolding hasSecond operandOf addressOf loadNeed storeNeed
   indexed d x a next s e f n =
       record {
@@ -76,7 +89,7 @@ module _ (st : State) (m : List ℕ) (w : ℕ) where
         stores = λ a. refl;
       }
 
-  pub framed : (a next : ℕ) → a ≡ plus (regOf st 12) (word (signed4 (rxField w) *ℤ pos 2)) → next ≡ plus (st .pc) 2 → Addressed st m w 3 a next ReadWord WriteWord
+  pub framed : (a next : ℕ) → a ≡ plus (regOf st 12) (word (signed4 (rxField w) *ℤ pos 2)) → next ≡ plus (st .pc) 2 → Addressed st m w 3 a next Word
   unfolding hasSecond operandOf addressOf loadNeed storeNeed
   framed a next e n =
       record {
@@ -87,7 +100,7 @@ module _ (st : State) (m : List ℕ) (w : ℕ) where
         stores = λ a. refl;
       }
 
-  pub indirect : (a next : ℕ) → a ≡ regOf st (rxField w) → next ≡ plus (st .pc) 2 → Addressed st m w 6 a next ReadWord WriteWord
+  pub indirect : (a next : ℕ) → a ≡ regOf st (rxField w) → next ≡ plus (st .pc) 2 → Addressed st m w 6 a next Word
   unfolding hasSecond operandOf addressOf loadNeed storeNeed
   indirect a next e n =
       record {
@@ -98,7 +111,7 @@ module _ (st : State) (m : List ℕ) (w : ℕ) where
         stores = λ a. refl;
       }
 
-  pub byte-indirect : (a next : ℕ) → a ≡ regOf st (rxField w) → next ≡ plus (st .pc) 2 → Addressed st m w 7 a next ReadByte WriteByte
+  pub byte-indirect : (a next : ℕ) → a ≡ regOf st (rxField w) → next ≡ plus (st .pc) 2 → Addressed st m w 7 a next Byte
   unfolding hasSecond operandOf addressOf loadNeed storeNeed
   byte-indirect a next e n =
       record {
@@ -138,16 +151,11 @@ module _ (st : State) (m : List ℕ) (w : ℕ) where
         source = λ value. rw e;
       }
 
-  pub word-read :
-      (mode a x next at : ℕ) {write : ℕ → Need} → Addressed st m w mode a next ReadWord write → Grants st Read a at → x ≡ wordAt m at
-      → Sourced st m w mode x next
+  pub memory-read :
+      (width : Width) (mode a x next at : ℕ) → Addressed st m w mode a next width
+      → accessOf width (translates st) (st .tlb) Read a ≡ granted at (st .tlb) → x ≡ readAt width m at → Sourced st m w mode x next
   unfolding transferOf
-  word-read mode a x next at p g e =
+  memory-read Byte mode a x next at p g e =
       record { operand = p .operand; reached = p .reached; source = λ value. rw (p .loads, p .address, g, e) }
-
-  pub byte-read :
-      (mode a x next at : ℕ) {write : ℕ → Need} → Addressed st m w mode a next ReadByte write
-      → byteAccess (translates st) (st .tlb) Read a ≡ granted at (st .tlb) → x ≡ byteAt m at → Sourced st m w mode x next
-  unfolding transferOf
-  byte-read mode a x next at p g e =
+  memory-read Word mode a x next at p g e =
       record { operand = p .operand; reached = p .reached; source = λ value. rw (p .loads, p .address, g, e) }

@@ -27,17 +27,19 @@ use Rattle.machine.specs.Register.{regOf, spOf, withReg}
 use Rattle.machine.specs.State.{withPc}
 use Rattle.machine.specs.Step.{commit}
 use Rattle.machine.specs.Transfer.{transferOf}
-use Rattle.machine.specs.declared.Need.{Need}
-use Rattle.machine.specs.declared.Need.the-variants.{WriteByte, WriteWord}
 use Rattle.machine.specs.declared.Operation.{Operation}
 use Rattle.machine.specs.declared.Plan.the-variants.{Perform}
 use Rattle.machine.specs.declared.State.{State}
 use Rattle.machine.specs.declared.Transfer.the-variants.{Done}
-use Rattle.mmu.specs.Access.{byteAccess, granted}
-use Rattle.mmu.specs.Memory.{storeByte, storeWord, stored, wordAt}
+use Rattle.mmu.specs.Access.{granted}
+use Rattle.mmu.specs.Memory.{storeWord, stored, wordAt}
 use Rattle.mmu.specs.declared.Right.the-variants.{Read, Write}
 use Rattle.mmu.specs.declared.Store.{Store}
 use Rattle.mmu.specs.declared.Store.the-variants as store
+use Rattle.pages.specs.Accesses.{writeAt}
+use Rattle.pages.specs.Maps.{accessOf}
+use Rattle.pages.specs.declared.Width.{Width}
+use Rattle.pages.specs.declared.Width.the-variants.{Byte, Word}
 use Rattle.word.specs.Alu.{places, subOf}
 use Rattle.word.specs.Jump.{conditionOf}
 use Rattle.word.specs.Word.{minus, plus, upper}
@@ -189,7 +191,7 @@ module _ (b : State) (rs : List ℕ) (size : length rs ≡ 16) (h : Hot) (m : Li
         → planFirst (firstOf w) st m ≡ planned (endOf f (readied st ins next source s) (h .pc) (taken st rd)) st
     finishes source s t = enters st m w o e fine x next reached ∙ accessed st m ins next source s t
 
-  module _ {byte mode cost a next : ℕ} {read write : ℕ → Need} (e : upper w ≡ byte) (fine : RxFine mode w) (p : Addressed st m w mode a next read write) where
+  module _ {byte mode cost a next : ℕ} {width : Width} (e : upper w ≡ byte) (fine : RxFine mode w) (p : Addressed st m w mode a next width) where
     module _ (o : Opens byte JUMP mode condition data-access.None flow.Jump cost) (n : rd ≡ 13 → ⊥) where
       pub jump-does : holds (conditionOf rd (h .v) (h .c) (h .s) (h .z)) ≡ true → Does b rs h m w rs a (h .v) (h .c) (h .s) (h .z) m (cost + 1)
       unfolding needOf transferOf endOf commit afterOperation bodyOf eventOf stored
@@ -215,18 +217,13 @@ module _ (b : State) (rs : List ℕ) (size : length rs ≡ 16) (h : Hot) (m : Li
 
   module _ {byte mode cost a next : ℕ} (low : rd < 14) (e : upper w ≡ byte) (fine : RxFine mode w) (o : Opens byte ST mode register data-access.Destination flow.Next cost) where
     pub store-does :
-        {read : ℕ → Need} → Addressed st m w mode a next read WriteWord → (at : ℕ) → Grants b Write a at
-        → Does b rs h m w rs next (h .v) (h .c) (h .s) (h .z) (storeWord m at held) cost
+        (width : Width) → Addressed st m w mode a next width → (at : ℕ) → accessOf width (translates b) (b .tlb) Write a ≡ granted at (b .tlb)
+        → Does b rs h m w rs next (h .v) (h .c) (h .s) (h .z) (writeAt width m at held) cost
     unfolding needOf valueStored transferOf endOf commit afterOperation bodyOf eventOf stored
-    store-does p at g =
-        rw (finishes o e (fields-register mode w low fine) (p .operand) next (p .reached) 0 (store.Word at held) (rw (p .stores, p .address, g, reg rd low)))
-
-    pub store-byte-does :
-        {read : ℕ → Need} → Addressed st m w mode a next read WriteByte → (at : ℕ) → byteAccess (translates b) (b .tlb) Write a ≡ granted at (b .tlb)
-        → Does b rs h m w rs next (h .v) (h .c) (h .s) (h .z) (storeByte m at held) cost
-    unfolding needOf valueStored transferOf endOf commit afterOperation bodyOf eventOf stored
-    store-byte-does p at g =
+    store-does Byte p at g =
         rw (finishes o e (fields-register mode w low fine) (p .operand) next (p .reached) 0 (store.Byte at held) (rw (p .stores, p .address, g, reg rd low)))
+    store-does Word p at g =
+        rw (finishes o e (fields-register mode w low fine) (p .operand) next (p .reached) 0 (store.Word at held) (rw (p .stores, p .address, g, reg rd low)))
 
   -- ---- single bytes
 
@@ -239,14 +236,14 @@ module _ (b : State) (rs : List ℕ) (size : length rs ≡ 16) (h : Hot) (m : Li
     unfolding hasSecond operandOf
     alone r = one-word st m r 8 w refl ∙ rw n
 
-    pub no-does : upper w ≡ 0 → Does b rs h m w rs next (h .v) (h .c) (h .s) (h .z) m 3
+    pub no-does : upper w ≡ NO * 8 → Does b rs h m w rs next (h .v) (h .c) (h .s) (h .z) m 3
     unfolding opcodeOf inRows inModes modeBits rows row eight single addStates divStates shiftStates costOf statesAt needOf transferOf endOf commit afterOperation bodyOf eventOf stored
     no-does e =
         rw (finishes {code = NO} {cost = 3} {access = data-access.None} {f = flow.Next} (opens _ refl refl) e (fields-unused 8 w single-fine)
         operand.Nothing next alone 0 store.Nothing refl)
 
     pub push-does :
-        upper w ≡ 0xc0 → rd < 14 → (sp at : ℕ) → sp ≡ minus (getD rs 13 0) 2 → Grants b Write sp at
+        upper w ≡ PUSH * 8 → rd < 14 → (sp at : ℕ) → sp ≡ minus (getD rs 13 0) 2 → Grants b Write sp at
         → Does b rs h m w (set rs 13 sp) next (h .v) (h .c) (h .s) (h .z) (storeWord m at held) 5
     unfolding opcodeOf inRows inModes modeBits rows row eight single addStates divStates shiftStates costOf statesAt needOf valueStored transferOf endOf commit afterOperation bodyOf eventOf stored
     push-does e low sp at q g =
@@ -260,7 +257,7 @@ module _ (b : State) (rs : List ℕ) (size : length rs ≡ 16) (h : Hot) (m : Li
         (ap (λ (y : State). did y (storeWord m at held) 5) (sp-with-hot b rs next (h .v) (h .c) (h .s) (h .z) size sp))
 
     pub pop-does :
-        upper w ≡ 0xc4 → rd < 14 → (at sp x : ℕ) → Grants b Read (getD rs 13 0) at → x ≡ wordAt m at → sp ≡ plus (getD rs 13 0) 2
+        upper w ≡ PUSH * 8 + 4 → rd < 14 → (at sp x : ℕ) → Grants b Read (getD rs 13 0) at → x ≡ wordAt m at → sp ≡ plus (getD rs 13 0) 2
         → Does b rs h m w (set (set rs 13 sp) rd x) next (h .v) (h .c) (h .s) (h .z) m 6
     unfolding opcodeOf inRows inModes modeBits rows row eight single addStates divStates shiftStates costOf statesAt needOf valueStored transferOf endOf commit afterOperation bodyOf eventOf stored
     pop-does e low at sp x g q k =
@@ -274,7 +271,7 @@ module _ (b : State) (rs : List ℕ) (size : length rs ≡ 16) (h : Hot) (m : Li
         (set rs 13 sp) next (h .v) (h .c) (h .s) (h .z) (length-set rs 13 sp ∙ size) rd x low))
 
     pub ret-does :
-        upper w ≡ 0xd0 → (at sp x : ℕ) → Grants b Read (getD rs 13 0) at → x ≡ wordAt m at → sp ≡ plus (getD rs 13 0) 2
+        upper w ≡ RET * 8 → (at sp x : ℕ) → Grants b Read (getD rs 13 0) at → x ≡ wordAt m at → sp ≡ plus (getD rs 13 0) 2
         → Does b rs h m w (set rs 13 sp) x (h .v) (h .c) (h .s) (h .z) m 6
     unfolding opcodeOf inRows inModes modeBits rows row eight single addStates divStates shiftStates costOf statesAt needOf valueStored transferOf endOf commit afterOperation bodyOf eventOf stored
     ret-does e at sp x g q k =

@@ -1,10 +1,12 @@
 -- The instructions that are carried out here, by their first bytes.
 -- Assumes nothing.
 use mathlib.Core.Bool.{cond}
-use mathlib.Core.Path.{refl, _≡_}
+use mathlib.Core.List.{List, [], _∷_}
+use mathlib.Core.Path.{ap, refl, _≡_}
 use Prim.Native.Nat.{suc, zero, ℕ, _*_, _+_, _<_}
 use native.Mathlib.Omega.{arith}
 use lib.Dec.{eqb}
+use lib.ListN.{getD}
 use Rattle.decode.specs.Code.{ADD, ADDS, AND, CMP, DIV, LD, MOD, MUL, OR, SHLA, SHLL, SHRA, SHRL, SUB, XOR}
 use Rattle.decode.specs.Instructions.{RdUse, Row, addStates, costOf, divStates, eight, inModes, inRows, known, modeBits, opcodeOf, register, row, rows, shiftStates, single, statesAt}
 use Rattle.decode.specs.declared.DataAccess.{DataAccess}
@@ -63,70 +65,50 @@ below-eight P a b c d e f g h (suc (suc (suc (suc (suc (suc zero)))))) l = g
 below-eight P a b c d e f g h (suc (suc (suc (suc (suc (suc (suc zero))))))) l = h
 below-eight P a b c d e f g h (suc (suc (suc (suc (suc (suc (suc (suc n)))))))) l = absurd (omega arith)
 
+-- the eight modes at once
+abbrev inEight : {A : Type 0} → (ℕ → A) → List A
+inEight f = f 0 ∷ f 1 ∷ f 2 ∷ f 3 ∷ f 4 ∷ f 5 ∷ f 6 ∷ f 7 ∷ []
+
+each-mode : {A : Type 0} (f g : ℕ → A) → inEight f ≡ inEight g → (mode : ℕ) → mode < 8 → f mode ≡ g mode
+each-mode {A} f g e = below-eight (λ m. f m ≡ g m) (at 0) (at 1) (at 2) (at 3) (at 4) (at 5) (at 6) (at 7)
+  where
+    at : (k : ℕ) → getD (inEight f) k (f 0) ≡ getD (inEight g) k (f 0)
+    at k = ap (λ (xs : List A). getD xs k (f 0)) e
+
+row-opens :
+    (code : ℕ) (cost : ℕ → ℕ) (r : Row) → inEight (λ m. opcodeOf (code * 8 + m)) ≡ inEight (known r) → inEight (costOf r) ≡ inEight cost
+    → r .privilege ≡ Anyone → (mode : ℕ) → mode < 8 → Opens (code * 8 + mode) (r .code) mode (r .rd) (r .access) (r .flow) (cost mode)
+row-opens code cost r e s p mode l =
+    record {
+      row = r;
+      opcode = each-mode (λ m. opcodeOf (code * 8 + m)) (known r) e mode l;
+      privilege = p;
+      number = refl;
+      rd = refl;
+      accesses = refl;
+      flows = refl;
+      states = each-mode (costOf r) cost s mode l;
+    }
+
 pub opens-load : (mode : ℕ) → mode < 8 → Opens (LD * 8 + mode) LD mode register Source Next (loadCost mode)
 unfolding opcodeOf inRows inModes modeBits rows row eight single addStates divStates shiftStates costOf statesAt addCost loadCost
-opens-load =
-    below-eight (λ m. Opens (LD * 8 + m) LD m register Source Next (loadCost m))
-    (opens _ refl refl) (opens _ refl refl) (opens _ refl refl) (opens _ refl refl)
-    (opens _ refl refl) (opens _ refl refl) (opens _ refl refl) (opens _ refl refl)
+opens-load = row-opens LD loadCost _ refl refl refl
 
 pub opens-compute :
     {code extra : ℕ} {flow : Flow} → Computes code flow extra → (mode : ℕ) → mode < 8
     → Opens (code * 8 + mode) code mode register Source flow (addCost mode + extra)
 unfolding opcodeOf inRows inModes modeBits rows row eight single addStates divStates shiftStates costOf statesAt addCost
-opens-compute add =
-    below-eight (λ m. Opens (ADD * 8 + m) ADD m register Source Next (addCost m + 0))
-    (opens _ refl refl) (opens _ refl refl) (opens _ refl refl) (opens _ refl refl)
-    (opens _ refl refl) (opens _ refl refl) (opens _ refl refl) (opens _ refl refl)
-opens-compute sub =
-    below-eight (λ m. Opens (SUB * 8 + m) SUB m register Source Next (addCost m + 0))
-    (opens _ refl refl) (opens _ refl refl) (opens _ refl refl) (opens _ refl refl)
-    (opens _ refl refl) (opens _ refl refl) (opens _ refl refl) (opens _ refl refl)
-opens-compute cmp =
-    below-eight (λ m. Opens (CMP * 8 + m) CMP m register Source Next (addCost m + 0))
-    (opens _ refl refl) (opens _ refl refl) (opens _ refl refl) (opens _ refl refl)
-    (opens _ refl refl) (opens _ refl refl) (opens _ refl refl) (opens _ refl refl)
-opens-compute and =
-    below-eight (λ m. Opens (AND * 8 + m) AND m register Source Next (addCost m + 0))
-    (opens _ refl refl) (opens _ refl refl) (opens _ refl refl) (opens _ refl refl)
-    (opens _ refl refl) (opens _ refl refl) (opens _ refl refl) (opens _ refl refl)
-opens-compute or =
-    below-eight (λ m. Opens (OR * 8 + m) OR m register Source Next (addCost m + 0))
-    (opens _ refl refl) (opens _ refl refl) (opens _ refl refl) (opens _ refl refl)
-    (opens _ refl refl) (opens _ refl refl) (opens _ refl refl) (opens _ refl refl)
-opens-compute xor =
-    below-eight (λ m. Opens (XOR * 8 + m) XOR m register Source Next (addCost m + 0))
-    (opens _ refl refl) (opens _ refl refl) (opens _ refl refl) (opens _ refl refl)
-    (opens _ refl refl) (opens _ refl refl) (opens _ refl refl) (opens _ refl refl)
-opens-compute adds =
-    below-eight (λ m. Opens (ADDS * 8 + m) ADDS m register Source Next (addCost m + 1))
-    (opens _ refl refl) (opens _ refl refl) (opens _ refl refl) (opens _ refl refl)
-    (opens _ refl refl) (opens _ refl refl) (opens _ refl refl) (opens _ refl refl)
-opens-compute mul =
-    below-eight (λ m. Opens (MUL * 8 + m) MUL m register Source Next (addCost m + 50))
-    (opens _ refl refl) (opens _ refl refl) (opens _ refl refl) (opens _ refl refl)
-    (opens _ refl refl) (opens _ refl refl) (opens _ refl refl) (opens _ refl refl)
-opens-compute div =
-    below-eight (λ m. Opens (DIV * 8 + m) DIV m register Source Divide (addCost m + 66))
-    (opens _ refl refl) (opens _ refl refl) (opens _ refl refl) (opens _ refl refl)
-    (opens _ refl refl) (opens _ refl refl) (opens _ refl refl) (opens _ refl refl)
-opens-compute modulo =
-    below-eight (λ m. Opens (MOD * 8 + m) MOD m register Source Divide (addCost m + 66))
-    (opens _ refl refl) (opens _ refl refl) (opens _ refl refl) (opens _ refl refl)
-    (opens _ refl refl) (opens _ refl refl) (opens _ refl refl) (opens _ refl refl)
-opens-compute shla =
-    below-eight (λ m. Opens (SHLA * 8 + m) SHLA m register Source Shift (addCost m + 1))
-    (opens _ refl refl) (opens _ refl refl) (opens _ refl refl) (opens _ refl refl)
-    (opens _ refl refl) (opens _ refl refl) (opens _ refl refl) (opens _ refl refl)
-opens-compute shll =
-    below-eight (λ m. Opens (SHLL * 8 + m) SHLL m register Source Shift (addCost m + 1))
-    (opens _ refl refl) (opens _ refl refl) (opens _ refl refl) (opens _ refl refl)
-    (opens _ refl refl) (opens _ refl refl) (opens _ refl refl) (opens _ refl refl)
-opens-compute shra =
-    below-eight (λ m. Opens (SHRA * 8 + m) SHRA m register Source Shift (addCost m + 1))
-    (opens _ refl refl) (opens _ refl refl) (opens _ refl refl) (opens _ refl refl)
-    (opens _ refl refl) (opens _ refl refl) (opens _ refl refl) (opens _ refl refl)
-opens-compute shrl =
-    below-eight (λ m. Opens (SHRL * 8 + m) SHRL m register Source Shift (addCost m + 1))
-    (opens _ refl refl) (opens _ refl refl) (opens _ refl refl) (opens _ refl refl)
-    (opens _ refl refl) (opens _ refl refl) (opens _ refl refl) (opens _ refl refl)
+opens-compute add = row-opens ADD (λ m. addCost m + 0) _ refl refl refl
+opens-compute sub = row-opens SUB (λ m. addCost m + 0) _ refl refl refl
+opens-compute cmp = row-opens CMP (λ m. addCost m + 0) _ refl refl refl
+opens-compute and = row-opens AND (λ m. addCost m + 0) _ refl refl refl
+opens-compute or = row-opens OR (λ m. addCost m + 0) _ refl refl refl
+opens-compute xor = row-opens XOR (λ m. addCost m + 0) _ refl refl refl
+opens-compute adds = row-opens ADDS (λ m. addCost m + 1) _ refl refl refl
+opens-compute mul = row-opens MUL (λ m. addCost m + 50) _ refl refl refl
+opens-compute div = row-opens DIV (λ m. addCost m + 66) _ refl refl refl
+opens-compute modulo = row-opens MOD (λ m. addCost m + 66) _ refl refl refl
+opens-compute shla = row-opens SHLA (λ m. addCost m + 1) _ refl refl refl
+opens-compute shll = row-opens SHLL (λ m. addCost m + 1) _ refl refl refl
+opens-compute shra = row-opens SHRA (λ m. addCost m + 1) _ refl refl refl
+opens-compute shrl = row-opens SHRL (λ m. addCost m + 1) _ refl refl refl

@@ -8,17 +8,17 @@ use lib.ListN.{getD}
 use Rattle.decode.specs.Decode.{rxField, usesRx}
 use Rattle.decode.specs.Instructions.{addStates, eight, statesAt}
 use Rattle.machine.specs.Register.{regOf}
-use Rattle.machine.specs.declared.Need.{Need}
-use Rattle.machine.specs.declared.Need.the-variants.{ReadByte, ReadWord, WriteByte, WriteWord}
 use Rattle.machine.specs.declared.State.{State}
 use Rattle.mmu.specs.declared.Right.the-variants.{Execute, Read}
-use Rattle.pages.specs.Accesses.{ByteRead, WordRead}
-use Rattle.pages.specs.Maps.{byte-granted, word-granted}
+use Rattle.pages.specs.Accesses.{Reads}
+use Rattle.pages.specs.Maps.{access-granted}
+use Rattle.pages.specs.declared.Width.{Width}
+use Rattle.pages.specs.declared.Width.the-variants.{Byte, Word}
 use Rattle.word.specs.Word.{plus, upper}
 use Rattle.runner.specs.Accesses.{IndexedPlace, RegRead, frame-word, second-of, short-word, shortOf}
 use Rattle.runner.specs.Fetch.{MapOf}
 use Rattle.runner.specs.Hot.{hotState, reg-hot}
-use Rattle.runner.specs.Operands.{Addressed, Sourced, byte-indirect, byte-read, direct, framed, immediate, indexed, indirect, register, short, word-read}
+use Rattle.runner.specs.Operands.{Addressed, Sourced, byte-indirect, direct, framed, immediate, indexed, indirect, memory-read, register, short}
 use Rattle.runner.specs.Operations.{RxFine, rx-low, rx-unused}
 use Rattle.runner.specs.Rows.{addCost, below-eight}
 use Rattle.runner.specs.declared.Hot.{Hot}
@@ -50,15 +50,15 @@ pub record SourceIs (rs map m : List ℕ) (pc w : ℕ) (r : Source) : Type 0 whe
   pub valued : r .value < 65536 → Valued rs map m pc w (modeOf w) (r .value) (r .next)
 
 -- the operand's address, in the same way
-pub record Named (rs map m : List ℕ) (pc w mode a next : ℕ) (read write : ℕ → Need) : Type 0 where
+pub record Named (rs map m : List ℕ) (pc w mode a next : ℕ) (width : Width) : Type 0 where
   pub fine : RxFine mode w
-  pub addressed : (b : State) → MapOf b map → (h : Hot) → h .pc ≡ pc → Addressed (hotState b rs h) m w mode a next read write
+  pub addressed : (b : State) → MapOf b map → (h : Hot) → h .pc ≡ pc → Addressed (hotState b rs h) m w mode a next width
 
 module _ (rs map m : List ℕ) (pc w next : ℕ) where
   -- ---- addresses
 
-  module _ (n : next ≡ plus pc 4) (d : ℕ) (fetch : d < 65536 → WordRead map m Execute (plus pc 2) d) where
-    pub direct-named : d < 65536 → Named rs map m pc w 0 d next ReadWord WriteWord
+  module _ (n : next ≡ plus pc 4) (d : ℕ) (fetch : d < 65536 → Reads map m Execute Word (plus pc 2) d) where
+    pub direct-named : d < 65536 → Named rs map m pc w 0 d next Word
     unfolding usesRx
     direct-named l =
         record {
@@ -66,7 +66,7 @@ module _ (rs map m : List ℕ) (pc w next : ℕ) where
           addressed = λ b maps h q. direct (hotState b rs h) m w d next (second-of b rs m h map maps (rw q (fetch l))) (rw q n);
         }
 
-    pub indexed-named : (a : ℕ) → (a < 65536 → IndexedPlace rs d w a) → a < 65536 → Named rs map m pc w 1 a next ReadWord WriteWord
+    pub indexed-named : (a : ℕ) → (a < 65536 → IndexedPlace rs d w a) → a < 65536 → Named rs map m pc w 1 a next Word
     indexed-named a place l =
         let p = place l in
         record {
@@ -77,7 +77,7 @@ module _ (rs map m : List ℕ) (pc w next : ℕ) where
         }
 
   module _ (n : next ≡ plus pc 2) (a : ℕ) where
-    pub frame-named : a ≡ framePlace rs w → a < 65536 → Named rs map m pc w 3 a next ReadWord WriteWord
+    pub frame-named : a ≡ framePlace rs w → a < 65536 → Named rs map m pc w 3 a next Word
     unfolding usesRx
     frame-named f l =
         record {
@@ -90,11 +90,11 @@ module _ (rs map m : List ℕ) (pc w next : ℕ) where
       in-register : (b : State) (h : Hot) → a ≡ regOf (hotState b rs h) (rxField w)
       in-register b h = place l .value ∙ sym (reg-hot b rs (h .pc) (h .v) (h .c) (h .s) (h .z) (rxField w) (place l .low))
 
-      pub indirect-named : Named rs map m pc w 6 a next ReadWord WriteWord
+      pub indirect-named : Named rs map m pc w 6 a next Word
       indirect-named =
           record { fine = rx-low 6 w (place l .low); addressed = λ b maps h q. indirect (hotState b rs h) m w a next (in-register b h) (rw q n) }
 
-      pub byte-named : Named rs map m pc w 7 a next ReadByte WriteByte
+      pub byte-named : Named rs map m pc w 7 a next Byte
       byte-named =
           record { fine = rx-low 7 w (place l .low); addressed = λ b maps h q. byte-indirect (hotState b rs h) m w a next (in-register b h) (rw q n) }
 
@@ -104,27 +104,26 @@ module _ (rs map m : List ℕ) (pc w next : ℕ) where
     abbrev Is : ℕ → Type 0
     Is cost = SourceIs rs map m pc w (record { value = x; next = next; cost = cost })
 
-    -- a word that is read at an address
-    at-word :
-        (mode a : ℕ) → (a < 65536 → Named rs map m pc w mode a next ReadWord WriteWord) → (x < 65536 → WordRead map m Read a x) → x < 65536
+    -- what is read at an address
+    read-valued :
+        {width : Width} (mode a : ℕ) → (a < 65536 → Named rs map m pc w mode a next width) → (x < 65536 → Reads map m Read width a x) → x < 65536
         → Valued rs map m pc w mode x next
-    at-word mode a named read l =
+    read-valued {width} mode a named read l =
         let r = read l in
-        let p = named (r .below) in
+        let p = named (r .placed .below) in
         record {
           fine = p .fine;
-          sourced = λ b maps h q.
-              word-read (hotState b rs h) m w mode a x next (r .at) (p .addressed b maps h q) (word-granted maps (r .below) (r .placed) (r .even)) (r .value);
+          sourced = λ b maps h q. memory-read (hotState b rs h) m w width mode a x next (r .at) (p .addressed b maps h q) (access-granted maps (r .placed)) (r .value);
         }
 
-    module _ (n : next ≡ plus pc 4) (d : ℕ) (fetch : d < 65536 → WordRead map m Execute (plus pc 2) d) where
-      pub direct-source : modeOf w ≡ 0 → (x < 65536 → WordRead map m Read d x) → Is 7
+    module _ (n : next ≡ plus pc 4) (d : ℕ) (fetch : d < 65536 → Reads map m Execute Word (plus pc 2) d) where
+      pub direct-source : modeOf w ≡ 0 → (x < 65536 → Reads map m Read Word d x) → Is 7
       unfolding addCost statesAt eight addStates
-      direct-source e read = record { cost = rw e; valued = rw e (at-word 0 d (direct-named n d fetch) read) }
+      direct-source e read = record { cost = rw e; valued = rw e (read-valued 0 d (direct-named n d fetch) read) }
 
-      pub indexed-source : modeOf w ≡ 1 → (a : ℕ) → (a < 65536 → IndexedPlace rs d w a) → (x < 65536 → WordRead map m Read a x) → Is 7
+      pub indexed-source : modeOf w ≡ 1 → (a : ℕ) → (a < 65536 → IndexedPlace rs d w a) → (x < 65536 → Reads map m Read Word a x) → Is 7
       unfolding addCost statesAt eight addStates
-      indexed-source e a place read = record { cost = rw e; valued = rw e (at-word 1 a (indexed-named n d fetch a place) read) }
+      indexed-source e a place read = record { cost = rw e; valued = rw e (read-valued 1 a (indexed-named n d fetch a place) read) }
 
       pub immediate-source : modeOf w ≡ 2 → x ≡ d → Is 5
       unfolding addCost statesAt eight addStates usesRx
@@ -136,9 +135,9 @@ module _ (rs map m : List ℕ) (pc w next : ℕ) where
           }
 
     module _ (n : next ≡ plus pc 2) where
-      pub frame-source : modeOf w ≡ 3 → (a : ℕ) → a ≡ framePlace rs w → (x < 65536 → WordRead map m Read a x) → Is 7
+      pub frame-source : modeOf w ≡ 3 → (a : ℕ) → a ≡ framePlace rs w → (x < 65536 → Reads map m Read Word a x) → Is 7
       unfolding addCost statesAt eight addStates
-      frame-source e a f read = record { cost = rw e; valued = rw e (at-word 3 a (frame-named n a f) read) }
+      frame-source e a f read = record { cost = rw e; valued = rw e (read-valued 3 a (frame-named n a f) read) }
 
       pub register-source : modeOf w ≡ 4 → (x < 65536 → RegRead rs (w % 16) x) → Is 5
       unfolding addCost statesAt eight addStates
@@ -161,21 +160,10 @@ module _ (rs map m : List ℕ) (pc w next : ℕ) where
                 record { fine = rx-unused 5 w refl; sourced = λ b maps h q. short (hotState b rs h) m w x next (f ∙ short-word (rxField w) (omega arith)) (rw q n) });
           }
 
-      pub indirect-source : modeOf w ≡ 6 → (a : ℕ) → (a < 65536 → RegRead rs (w % 16) a) → (x < 65536 → WordRead map m Read a x) → Is 6
+      pub indirect-source : modeOf w ≡ 6 → (a : ℕ) → (a < 65536 → RegRead rs (w % 16) a) → (x < 65536 → Reads map m Read Word a x) → Is 6
       unfolding addCost statesAt eight addStates
-      indirect-source e a place read = record { cost = rw e; valued = rw e (at-word 6 a (indirect-named n a place) read) }
+      indirect-source e a place read = record { cost = rw e; valued = rw e (read-valued 6 a (indirect-named n a place) read) }
 
-      pub byte-source : modeOf w ≡ 7 → (a : ℕ) → (a < 65536 → RegRead rs (w % 16) a) → (x < 65536 → ByteRead map m a x) → Is 6
+      pub byte-source : modeOf w ≡ 7 → (a : ℕ) → (a < 65536 → RegRead rs (w % 16) a) → (x < 65536 → Reads map m Read Byte a x) → Is 6
       unfolding addCost statesAt eight addStates
-      byte-source e a place read =
-          record {
-            cost = rw e;
-            valued = rw e (λ l.
-                let r = read l in
-                let p = byte-named n a place (r .below) in
-                record {
-                  fine = p .fine;
-                  sourced = λ b maps h q.
-                      byte-read (hotState b rs h) m w 7 a x next (r .at) (p .addressed b maps h q) (byte-granted maps (r .below) (r .placed)) (r .value);
-                });
-          }
+      byte-source e a place read = record { cost = rw e; valued = rw e (read-valued 7 a (byte-named n a place) read) }

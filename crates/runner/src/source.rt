@@ -7,9 +7,9 @@ ghost use Rattle.runner.specs.Accesses.{IndexedPlace, shortOf};
 ghost use Rattle.runner.specs.Sources.{SourceIs, framePlace};
 use crate::register::register;
 use pages::NONE;
+use pages::Width;
 use pages::fetch;
-use pages::read_byte;
-use pages::read_word;
+use pages::read;
 use word::plus;
 
 // An operand: its value, the address of the following instruction, and the states with ADD.
@@ -64,16 +64,24 @@ pub fn source_of(regs: &[u16; 16], map: &[u16; 256], mem: &[u8], pc: u16, w: u16
     let beyond = plus(pc, 4);
     let mode = w / 256 % 8;
     match mode {
-        0 => operand(read_word(map, mem, fetch(map, mem, after)), beyond, 7),
+        0 => operand(
+            read(map, mem, Width::Word, fetch(map, mem, after)),
+            beyond,
+            7,
+        ),
         1 => {
             let a = indexed_place(regs, fetch(map, mem, after), w);
-            operand(read_word(map, mem, a), beyond, 7)
+            operand(read(map, mem, Width::Word, a), beyond, 7)
         }
         2 => operand(fetch(map, mem, after), beyond, 5),
-        3 => operand(read_word(map, mem, frame_place(regs, w) as u32), after, 7),
+        3 => operand(
+            read(map, mem, Width::Word, frame_place(regs, w) as u32),
+            after,
+            7,
+        ),
         4 => operand(register(regs, w), after, 5),
         5 => operand(short(w) as u32, after, 4),
-        6 => operand(read_word(map, mem, register(regs, w)), after, 6),
-        _ => operand(read_byte(map, mem, register(regs, w)), after, 6),
+        6 => operand(read(map, mem, Width::Word, register(regs, w)), after, 6),
+        _ => operand(read(map, mem, Width::Byte, register(regs, w)), after, 6),
     }
 }

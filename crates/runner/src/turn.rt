@@ -1,9 +1,10 @@
 // The instructions that move: stores, jumps, the stack; and the instruction of a first word.
 ghost use mathlib.Core.Path.{_≡_};
-ghost use Prim.Native.Nat.{_<_, _%_, _/_};
+ghost use Prim.Native.Nat.{_%_, _*_, _+_, _/_, _<_};
 ghost use lib.ListN.{length};
+ghost use Rattle.decode.specs.Code.{CALL, JUMP, NO, PUSH, RET, ST};
 ghost use Rattle.word.specs.Word.{upper};
-ghost use Rattle.runner.specs.Moves.{Added, Stored, StoredByte};
+ghost use Rattle.runner.specs.Moves.{Added, Stored};
 ghost use Rattle.runner.specs.Tells.{Tells};
 use crate::Hot;
 use crate::register::register;
@@ -15,12 +16,12 @@ use decode::code;
 use mmu::Right;
 use pages::NONE;
 use pages::NOWHERE;
+use pages::Width;
 use pages::fetch;
 use pages::place;
-use pages::read_word;
+use pages::read;
 use pages::word_at;
-use pages::write_byte;
-use pages::write_word;
+use pages::write;
 use word::minus;
 use word::plus;
 
@@ -37,7 +38,7 @@ fn added(regs: &[u16; 16], mode: u16, w: u16) -> u32
 impl Hot {
     // A jump, PC being even.
     fn jump(self, regs: &[u16; 16], map: &[u16; 256], mem: &[u8], w: u16) -> Hot
-        requires { ⌜ (length (now regs) ≡ 16) × (length (now mem) ≡ 65536) × (self .pc % 2 ≡ 0) × (w / 2048 ≡ 20) ⌝ }
+        requires { ⌜ (length (now regs) ≡ 16) × (length (now mem) ≡ 65536) × (self .pc % 2 ≡ 0) × (w / 2048 ≡ JUMP) ⌝ }
         ensures { λ r. ⌜ Tells (now (map .entry)) (now (regs .entry)) (now (mem .entry)) self w (now (regs .entry)) (now (mem .entry)) r ⌝ }
     {
         let mode = w / 256 % 8;
@@ -64,7 +65,7 @@ impl Hot {
 
     // CALL, PC being even.
     fn call(self, regs: &mut [u16; 16], map: &[u16; 256], mem: &mut [u8], w: u16) -> Hot
-        requires { ⌜ (length (now regs) ≡ 16) × (length (now mem) ≡ 65536) × (self .pc % 2 ≡ 0) × (w / 2048 ≡ 21) ⌝ }
+        requires { ⌜ (length (now regs) ≡ 16) × (length (now mem) ≡ 65536) × (self .pc % 2 ≡ 0) × (w / 2048 ≡ CALL) ⌝ }
         ensures { λ r. ⌜ Tells (now (map .entry)) (now (regs .entry)) (now (mem .entry)) self w (now (regs .exit)) (now (mem .exit)) r ⌝ }
     {
         let mode = w / 256 % 8;
@@ -80,7 +81,7 @@ impl Hot {
             return self.stop();
         }
         let sp = minus(regs[13], 2);
-        if write_word(map, mem, sp as u32, plus(self.pc, 4)) {
+        if write(map, mem, Width::Word, sp as u32, plus(self.pc, 4)) {
             regs[13] = sp;
             return self.to(((d + add) % 65536) as u16, 6);
         }
@@ -88,7 +89,7 @@ impl Hot {
     }
 
     fn push(self, regs: &mut [u16; 16], map: &[u16; 256], mem: &mut [u8], w: u16) -> Hot
-        requires { ⌜ (length (now regs) ≡ 16) × (length (now mem) ≡ 65536) × (upper w ≡ 192) ⌝ }
+        requires { ⌜ (length (now regs) ≡ 16) × (length (now mem) ≡ 65536) × (upper w ≡ PUSH * 8) ⌝ }
         ensures { λ r. ⌜ Tells (now (map .entry)) (now (regs .entry)) (now (mem .entry)) self w (now (regs .exit)) (now (mem .exit)) r ⌝ }
     {
         let v = register(regs, w / 16);
@@ -96,7 +97,7 @@ impl Hot {
             return self.stop();
         }
         let sp = minus(regs[13], 2);
-        if write_word(map, mem, sp as u32, v as u16) {
+        if write(map, mem, Width::Word, sp as u32, v as u16) {
             regs[13] = sp;
             return self.to(plus(self.pc, 2), 5);
         }
@@ -104,7 +105,7 @@ impl Hot {
     }
 
     fn pop(self, regs: &mut [u16; 16], map: &[u16; 256], mem: &[u8], w: u16) -> Hot
-        requires { ⌜ (length (now regs) ≡ 16) × (length (now mem) ≡ 65536) × (upper w ≡ 196) ⌝ }
+        requires { ⌜ (length (now regs) ≡ 16) × (length (now mem) ≡ 65536) × (upper w ≡ PUSH * 8 + 4) ⌝ }
         ensures { λ r. ⌜ Tells (now (map .entry)) (now (regs .entry)) (now (mem .entry)) self w (now (regs .exit)) (now (mem .entry)) r ⌝ }
     {
         let d = (w / 16 % 16) as usize;
@@ -112,7 +113,7 @@ impl Hot {
             return self.stop();
         }
         let sp = regs[13];
-        let x = read_word(map, mem, wide(sp));
+        let x = read(map, mem, Width::Word, wide(sp));
         if NONE <= x {
             return self.stop();
         }
@@ -122,7 +123,7 @@ impl Hot {
     }
 
     fn ret(self, regs: &mut [u16; 16], map: &[u16; 256], mem: &[u8], w: u16) -> Hot
-        requires { ⌜ (length (now regs) ≡ 16) × (length (now mem) ≡ 65536) × (w / 2048 ≡ 26) ⌝ }
+        requires { ⌜ (length (now regs) ≡ 16) × (length (now mem) ≡ 65536) × (w / 2048 ≡ RET) ⌝ }
         ensures { λ r. ⌜ Tells (now (map .entry)) (now (regs .entry)) (now (mem .entry)) self w (now (regs .exit)) (now (mem .entry)) r ⌝ }
     {
         let mode = w / 256 % 8;
@@ -130,7 +131,7 @@ impl Hot {
             return self.stop();
         }
         let sp = regs[13];
-        let x = read_word(map, mem, wide(sp));
+        let x = read(map, mem, Width::Word, wide(sp));
         if NONE <= x {
             return self.stop();
         }
@@ -139,47 +140,25 @@ impl Hot {
     }
 
     // Rd stored at an address.
-    fn store_word(
+    fn store_at(
         self,
         regs: &[u16; 16],
         map: &[u16; 256],
         mem: &mut [u8],
         w: u16,
+        width: Width,
         a: u32,
         next: u16,
         cost: u32,
     ) -> Hot
         requires { ⌜ length (now mem) ≡ 65536 ⌝ }
-        ensures { λ r. ⌜ Stored (now (map .entry)) (now (regs .entry)) (now (mem .entry)) self w a next cost (now (mem .exit)) r ⌝ }
+        ensures { λ r. ⌜ Stored (now (map .entry)) (now (regs .entry)) (now (mem .entry)) self w width a next cost (now (mem .exit)) r ⌝ }
     {
         let v = register(regs, w / 16);
         if NONE <= v {
             return self.stop();
         }
-        if write_word(map, mem, a, v as u16) {
-            return self.to(next, cost);
-        }
-        self.stop()
-    }
-
-    fn store_byte(
-        self,
-        regs: &[u16; 16],
-        map: &[u16; 256],
-        mem: &mut [u8],
-        w: u16,
-        a: u32,
-        next: u16,
-        cost: u32,
-    ) -> Hot
-        requires { ⌜ length (now mem) ≡ 65536 ⌝ }
-        ensures { λ r. ⌜ StoredByte (now (map .entry)) (now (regs .entry)) (now (mem .entry)) self w a next cost (now (mem .exit)) r ⌝ }
-    {
-        let v = register(regs, w / 16);
-        if NONE <= v {
-            return self.stop();
-        }
-        if write_byte(map, mem, a, v as u16) {
+        if write(map, mem, width, a, v as u16) {
             return self.to(next, cost);
         }
         self.stop()
@@ -187,48 +166,39 @@ impl Hot {
 
     // ST, PC being even.
     fn store(self, regs: &[u16; 16], map: &[u16; 256], mem: &mut [u8], w: u16) -> Hot
-        requires { ⌜ (length (now regs) ≡ 16) × (length (now mem) ≡ 65536) × (self .pc % 2 ≡ 0) × (w / 2048 ≡ 2) ⌝ }
+        requires { ⌜ (length (now regs) ≡ 16) × (length (now mem) ≡ 65536) × (self .pc % 2 ≡ 0) × (w / 2048 ≡ ST) ⌝ }
         ensures { λ r. ⌜ Tells (now (map .entry)) (now (regs .entry)) (now (mem .entry)) self w (now (regs .entry)) (now (mem .exit)) r ⌝ }
     {
         let pc = self.pc;
         let mode = w / 256 % 8;
         match mode {
-            0 => self.store_word(
-                regs,
-                map,
-                mem,
-                w,
-                fetch(map, mem, plus(pc, 2)),
-                plus(pc, 4),
-                6,
-            ),
-            1 => self.store_word(
-                regs,
-                map,
-                mem,
-                w,
-                indexed_place(regs, fetch(map, mem, plus(pc, 2)), w),
-                plus(pc, 4),
-                6,
-            ),
-            3 => self.store_word(
-                regs,
-                map,
-                mem,
-                w,
-                wide(frame_place(regs, w)),
-                plus(pc, 2),
-                6,
-            ),
-            6 => self.store_word(regs, map, mem, w, register(regs, w), plus(pc, 2), 5),
-            7 => self.store_byte(regs, map, mem, w, register(regs, w), plus(pc, 2), 5),
+            0 => {
+                let a = fetch(map, mem, plus(pc, 2));
+                self.store_at(regs, map, mem, w, Width::Word, a, plus(pc, 4), 6)
+            }
+            1 => {
+                let a = indexed_place(regs, fetch(map, mem, plus(pc, 2)), w);
+                self.store_at(regs, map, mem, w, Width::Word, a, plus(pc, 4), 6)
+            }
+            3 => {
+                let a = wide(frame_place(regs, w));
+                self.store_at(regs, map, mem, w, Width::Word, a, plus(pc, 2), 6)
+            }
+            6 => {
+                let a = register(regs, w);
+                self.store_at(regs, map, mem, w, Width::Word, a, plus(pc, 2), 5)
+            }
+            7 => {
+                let a = register(regs, w);
+                self.store_at(regs, map, mem, w, Width::Byte, a, plus(pc, 2), 5)
+            }
             _ => self.stop(),
         }
     }
 
     // NO.
     fn no(self, regs: &[u16; 16], map: &[u16; 256], mem: &[u8], w: u16) -> Hot
-        requires { ⌜ (length (now regs) ≡ 16) × (w / 2048 ≡ 0) ⌝ }
+        requires { ⌜ (length (now regs) ≡ 16) × (w / 2048 ≡ NO) ⌝ }
         ensures { λ r. ⌜ Tells (now (map .entry)) (now (regs .entry)) (now (mem .entry)) self w (now (regs .entry)) (now (mem .entry)) r ⌝ }
     {
         if 256 <= w {
@@ -239,7 +209,7 @@ impl Hot {
 
     // PUSH and POP.
     fn stack(self, regs: &mut [u16; 16], map: &[u16; 256], mem: &mut [u8], w: u16) -> Hot
-        requires { ⌜ (length (now regs) ≡ 16) × (length (now mem) ≡ 65536) × (w / 2048 ≡ 24) ⌝ }
+        requires { ⌜ (length (now regs) ≡ 16) × (length (now mem) ≡ 65536) × (w / 2048 ≡ PUSH) ⌝ }
         ensures { λ r. ⌜ Tells (now (map .entry)) (now (regs .entry)) (now (mem .entry)) self w (now (regs .exit)) (now (mem .exit)) r ⌝ }
     {
         let mode = w / 256 % 8;

@@ -2,6 +2,7 @@
 -- Assumes nothing.
 use native.Mathlib.Omega.{arith}
 use borrow.Author.Needs.{needs}
+use Rattle.pages.specs.Maps.{word-placed}
 use Rattle.pages.proofs.access.fetch.Statement.{statement}
 use Rattle.pages.proofs.access.fetch.Tie as tie
 
@@ -18,13 +19,8 @@ word-at-requires c κs =
 
 returns-2 : tie.Need-returns-2
 returns-2 c =
-    λ l. let p = c .before .before .place .ensures (c .before .if1 .left) in record {
-      below = omega arith;
-      even = search needs;
-      at = _;
-      placed = p;
-      value = c .word-at .ensures;
-    }
+    λ l. let p = c .before .before .place .ensures (c .before .if1 .left) in
+    record { at = _; placed = word-placed p (search needs); value = c .word-at .ensures }
 
 pub fetch-spec : {M : Type 1} → statement M
 fetch-spec = tie.close (tie.spec place-requires returns word-at-requires returns-2)

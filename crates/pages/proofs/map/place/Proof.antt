@@ -22,7 +22,7 @@ physical-requires : tie.Need-physical-requires
 physical-requires c κs = search needs
 
 returns : tie.Need-returns
-returns c = λ l. record { granted = sym (c .before .before .is-open .ensures) ∙ c .before .if1 .taken; place = c .physical .ensures }
+returns c = λ l. record { below = omega arith; aligned = omega arith; granted = sym (c .before .before .is-open .ensures) ∙ c .before .if1 .taken; place = c .physical .ensures }
 
 returns-2 : tie.Need-returns-2
 returns-2 c = λ l. absurd (omega arith)

@@ -45,14 +45,14 @@ element-copy-out-minus c = search needs
 minus-requires : tie.Need-minus-requires
 minus-requires c κs = search needs
 
-cast-write-word : tie.Need-cast-write-word
-cast-write-word c = search needs
+cast-write : tie.Need-cast-write
+cast-write c = search needs
 
 plus-requires-2 : tie.Need-plus-requires-2
 plus-requires-2 c κs = search needs
 
-write-word-requires : tie.Need-write-word-requires
-write-word-requires c κs = search needs
+write-requires : tie.Need-write-requires
+write-requires c κs = search needs
 
 element-write-regs : tie.Need-element-write-regs
 element-write-regs c = search needs
@@ -88,7 +88,7 @@ returns-4 c =
     (c .before .before .before .before .before .before .before .before .before .before .before .before .before .if2 .left)) (fetch′ .result)
     (rw (c .before .before .before .before .before .before .before .before .before .before .before .plus .ensures) at (fetch′ .ensures (if3′ .left)))
     (pre′ .3) (if3′ .left) _ refl (plus2′ .result) (plus2′ .ensures) (minus′ .result) (minus′ .ensures)
-    (wrote (c .before .before .before .before .write-word .ensures) (c .before .if4 .taken)))
+    (wrote (c .before .before .before .before .write .ensures) (c .before .if4 .taken)))
 
 stop-requires-4 : tie.Need-stop-requires-4
 stop-requires-4 c κs = search needs
@@ -97,7 +97,7 @@ same-length-3 : tie.Need-same-length-3
 same-length-3 c = search needs
 
 returns-5 : tie.Need-returns-5
-returns-5 c = stop (c .stop4 .ensures) refl (not-wrote (c .before .before .before .before .write-word .ensures) (c .before .if4 .left))
+returns-5 c = stop (c .stop4 .ensures) refl (not-wrote (c .before .before .before .before .write .ensures) (c .before .if4 .left))
 
 pub call-spec : {M : Type 1} → statement M
 call-spec =
@@ -115,9 +115,9 @@ call-spec =
     returns-3
     element-copy-out-minus
     minus-requires
-    cast-write-word
+    cast-write
     plus-requires-2
-    write-word-requires
+    write-requires
     element-write-regs
     add-to
     cast-to

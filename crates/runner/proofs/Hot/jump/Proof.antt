@@ -6,7 +6,9 @@ use borrow.Author.Needs.{needs}
 use Rattle.mmu.specs.Memory.{wordAt}
 use Rattle.mmu.specs.declared.Right.the-variants.{Execute}
 use Rattle.word.specs.Word.{plus}
-use Rattle.pages.specs.Accesses.{WordRead}
+use Rattle.pages.specs.Accesses.{Reads}
+use Rattle.pages.specs.Maps.{word-placed}
+use Rattle.pages.specs.declared.Width.the-variants.{Word}
 use Rattle.runner.specs.Moves.{jump-tells, pass-tells}
 use Rattle.runner.specs.Tells.{stop}
 use Rattle.runner.proofs.Hot.jump.Statement.{statement}
@@ -83,12 +85,9 @@ returns-5 c =
     let bytes′ = c .before .before .before .before .before .before .before .before .before .before .before .shared-slice-known in
     let place′ = c .before .before .before .before .before .place in
     let p = place′ .ensures (c .before .before .before .before .if4 .left) in
-    let f : WordRead (a .map .now) (a .mem .now) Execute (plus (a .self .pc) 2) (c .before .word-at .result) = record {
-      below = omega arith;
-      even = omega (arith, pre′ .2);
+    let f : Reads (a .map .now) (a .mem .now) Execute Word (plus (a .self .pc) 2) (c .before .word-at .result) = record {
       at = place′ .result;
-      placed = rw
-          (c .before .before .before .before .before .before .plus .ensures) at p;
+      placed = word-placed (rw (c .before .before .before .before .before .before .plus .ensures) at p) (omega (arith, pre′ .2));
       value = c .before .word-at .ensures;
     } in
     rw (c .to .ensures) (jump-tells (a .map .now) (a .regs .now) (pre′ .0) (a .mem .now) (a .self) (a .w)
@@ -111,12 +110,9 @@ returns-6 c =
     let pre′ = c .before .before .before .before .before .before .before .before .before .before .before .before .pre in
     let place′ = c .before .before .before .before .before .place in
     let p = place′ .ensures (c .before .before .before .before .if4 .left) in
-    let f : WordRead (a .map .now) (a .mem .now) Execute (plus (a .self .pc) 2) (wordAt (a .mem .now) (place′ .result)) = record {
-      below = omega arith;
-      even = omega (arith, pre′ .2);
+    let f : Reads (a .map .now) (a .mem .now) Execute Word (plus (a .self .pc) 2) (wordAt (a .mem .now) (place′ .result)) = record {
       at = place′ .result;
-      placed = rw
-          (c .before .before .before .before .before .before .plus .ensures) at p;
+      placed = word-placed (rw (c .before .before .before .before .before .before .plus .ensures) at p) (omega (arith, pre′ .2));
       value = refl;
     } in
     rw (c .to2 .ensures) (pass-tells (a .map .now) (a .regs .now) (pre′ .0) (a .mem .now) (a .self) (a .w)

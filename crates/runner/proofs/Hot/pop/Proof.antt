@@ -23,8 +23,8 @@ element-copy-out-sp c = search needs
 wide-requires : tie.Need-wide-requires
 wide-requires c κs = search needs
 
-read-word-requires : tie.Need-read-word-requires
-read-word-requires c κs = search needs
+read-requires : tie.Need-read-requires
+read-requires c κs = search needs
 
 stop-requires-2 : tie.Need-stop-requires-2
 stop-requires-2 c κs = search needs
@@ -57,7 +57,7 @@ returns-3 : tie.Need-returns-3
 returns-3 c =
     let a = c .before .before .before .before .before .before .before .before .before .args in
     let pre′ = c .before .before .before .before .before .before .before .before .before .pre in
-    let readword′ = c .before .before .before .before .read-word in
+    let readword′ = c .before .before .before .before .read in
     rw (c .to .ensures) (pop-tells (a .map .now) (a .regs .now) (pre′ .0) (a .mem .now) (a .self) (a .w) (c .before .plus2 .result)
     (c .before .plus2 .ensures) (pre′ .2) (omega (arith, c .before .before .before .before .before .before .before .if1 .left))
     (c .before .before .plus .result) (readword′ .result) (c .before .before .plus .ensures)
@@ -72,7 +72,7 @@ pop-spec =
     returns
     element-copy-out-sp
     wide-requires
-    read-word-requires
+    read-requires
     stop-requires-2
     returns-2
     plus-requires

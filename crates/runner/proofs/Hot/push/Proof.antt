@@ -23,14 +23,14 @@ element-copy-out-minus c = search needs
 minus-requires : tie.Need-minus-requires
 minus-requires c κs = search needs
 
-cast-write-word : tie.Need-cast-write-word
-cast-write-word c = search needs
+cast-write : tie.Need-cast-write
+cast-write c = search needs
 
-cast-write-word-2 : tie.Need-cast-write-word-2
-cast-write-word-2 c = search needs
+cast-write-2 : tie.Need-cast-write-2
+cast-write-2 c = search needs
 
-write-word-requires : tie.Need-write-word-requires
-write-word-requires c κs = search needs
+write-requires : tie.Need-write-requires
+write-requires c κs = search needs
 
 element-write-regs : tie.Need-element-write-regs
 element-write-regs c = search needs
@@ -53,7 +53,7 @@ returns-2 c =
     (c .before .before .before .before .before .before .before .before .before .if1 .left) in
     rw (c .to .ensures) (push-tells (a .map .now) (a .regs .now) (pre′ .0) (a .mem .now) (a .self) (a .w) (c .before .plus .result)
     (c .before .plus .ensures) (pre′ .2) (r .low) (minus′ .result) (minus′ .ensures)
-    (rw (r .value) at (wrote (c .before .before .before .before .before .write-word .ensures) (c .before .before .if2 .taken))))
+    (rw (r .value) at (wrote (c .before .before .before .before .before .write .ensures) (c .before .before .if2 .taken))))
 
 stop-requires-2 : tie.Need-stop-requires-2
 stop-requires-2 c κs = search needs
@@ -62,7 +62,7 @@ same-length-2 : tie.Need-same-length-2
 same-length-2 c = search needs
 
 returns-3 : tie.Need-returns-3
-returns-3 c = stop (c .stop2 .ensures) refl (not-wrote (c .before .before .before .before .write-word .ensures) (c .before .if2 .left))
+returns-3 c = stop (c .stop2 .ensures) refl (not-wrote (c .before .before .before .before .write .ensures) (c .before .if2 .left))
 
 pub push-spec : {M : Type 1} → statement M
 push-spec =
@@ -73,9 +73,9 @@ push-spec =
     returns
     element-copy-out-minus
     minus-requires
-    cast-write-word
-    cast-write-word-2
-    write-word-requires
+    cast-write
+    cast-write-2
+    write-requires
     element-write-regs
     plus-requires
     to-requires

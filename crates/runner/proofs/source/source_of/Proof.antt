@@ -16,8 +16,8 @@ plus-requires-2 c κs = search needs
 fetch-requires : tie.Need-fetch-requires
 fetch-requires c κs = search needs
 
-read-word-requires : tie.Need-read-word-requires
-read-word-requires c κs = search needs
+read-requires : tie.Need-read-requires
+read-requires c κs = search needs
 
 operand-requires : tie.Need-operand-requires
 operand-requires c κs = search needs
@@ -28,8 +28,8 @@ fetch-requires-2 c κs = search needs
 indexed-place-requires : tie.Need-indexed-place-requires
 indexed-place-requires c κs = search needs
 
-read-word-requires-2 : tie.Need-read-word-requires-2
-read-word-requires-2 c κs = search needs
+read-requires-2 : tie.Need-read-requires-2
+read-requires-2 c κs = search needs
 
 operand-requires-2 : tie.Need-operand-requires-2
 operand-requires-2 c κs = search needs
@@ -43,11 +43,11 @@ operand-requires-3 c κs = search needs
 frame-place-requires : tie.Need-frame-place-requires
 frame-place-requires c κs = search needs
 
-cast-read-word : tie.Need-cast-read-word
-cast-read-word c = search needs
+cast-read : tie.Need-cast-read
+cast-read c = search needs
 
-read-word-requires-3 : tie.Need-read-word-requires-3
-read-word-requires-3 c κs = search needs
+read-requires-3 : tie.Need-read-requires-3
+read-requires-3 c κs = search needs
 
 operand-requires-4 : tie.Need-operand-requires-4
 operand-requires-4 c κs = search needs
@@ -70,8 +70,8 @@ operand-requires-6 c κs = search needs
 register-requires-2 : tie.Need-register-requires-2
 register-requires-2 c κs = search needs
 
-read-word-requires-4 : tie.Need-read-word-requires-4
-read-word-requires-4 c κs = search needs
+read-requires-4 : tie.Need-read-requires-4
+read-requires-4 c κs = search needs
 
 operand-requires-7 : tie.Need-operand-requires-7
 operand-requires-7 c κs = search needs
@@ -79,8 +79,8 @@ operand-requires-7 c κs = search needs
 register-requires-3 : tie.Need-register-requires-3
 register-requires-3 c κs = search needs
 
-read-byte-requires : tie.Need-read-byte-requires
-read-byte-requires c κs = search needs
+read-requires-5 : tie.Need-read-requires-5
+read-requires-5 c κs = search needs
 
 operand-requires-8 : tie.Need-operand-requires-8
 operand-requires-8 c κs = search needs
@@ -91,7 +91,7 @@ returns c =
     rw (c .operand .ensures) (direct-source (a .regs .now) (a .map .now) (a .mem .now) (a .pc) (a .w) _ _
     (c .before .before .before .before .plus2 .ensures) (c .before .before .fetch .result)
     (rw (c .before .before .before .before .before .plus .ensures) at (c .before .before .fetch .ensures)) (c .before .before .before .match .keys1)
-    (c .before .read-word .ensures))
+    (c .before .read .ensures))
 
 returns-2 : tie.Need-returns-2
 returns-2 c =
@@ -100,7 +100,7 @@ returns-2 c =
     rw (c .operand2 .ensures) (indexed-source (a .regs .now) (a .map .now) (a .mem .now) (a .pc) (a .w) _ _
     (c .before .before .before .before .before .plus2 .ensures) (fetch2′ .result)
     (rw (c .before .before .before .before .before .before .plus .ensures) at (fetch2′ .ensures)) (c .before .before .before .before .match .keys2)
-    (c .before .before .indexed-place .result) (c .before .before .indexed-place .ensures) (c .before .read-word2 .ensures))
+    (c .before .before .indexed-place .result) (c .before .before .indexed-place .ensures) (c .before .read2 .ensures))
 
 returns-3 : tie.Need-returns-3
 returns-3 c =
@@ -114,7 +114,7 @@ returns-4 c =
     let a = c .before .before .before .before .before .before .before .args in
     rw (c .operand4 .ensures) (frame-source (a .regs .now) (a .map .now) (a .mem .now) (a .pc) (a .w) _ _
     (c .before .before .before .before .before .plus .ensures) (c .before .before .before .match .keys4) (c .before .before .frame-place .result)
-    (c .before .before .frame-place .ensures) (c .before .read-word3 .ensures))
+    (c .before .before .frame-place .ensures) (c .before .read3 .ensures))
 
 returns-5 : tie.Need-returns-5
 returns-5 c =
@@ -133,7 +133,7 @@ returns-7 c =
     let a = c .before .before .before .before .before .before .before .args in
     rw (c .operand7 .ensures) (indirect-source (a .regs .now) (a .map .now) (a .mem .now) (a .pc) (a .w) _ _
     (c .before .before .before .before .before .plus .ensures) (c .before .before .before .match .keys7) (c .before .before .register2 .result)
-    (c .before .before .register2 .ensures) (c .before .read-word4 .ensures))
+    (c .before .before .register2 .ensures) (c .before .read4 .ensures))
 
 returns-8 : tie.Need-returns-8
 returns-8 c =
@@ -142,7 +142,7 @@ returns-8 c =
     rw (c .operand8 .ensures) (byte-source (a .regs .now) (a .map .now) (a .mem .now) (a .pc) (a .w) _ _
     (c .before .before .before .before .before .plus .ensures) (last-mode _ (omega arith) (match′ .rest .0 .0 .0 .0 .0 .0 .1)
     (match′ .rest .0 .0 .0 .0 .0 .1) (match′ .rest .0 .0 .0 .0 .1) (match′ .rest .0 .0 .0 .1) (match′ .rest .0 .0 .1) (match′ .rest .0 .1)
-    (match′ .rest .1)) (c .before .before .register3 .result) (c .before .before .register3 .ensures) (c .before .read-byte .ensures))
+    (match′ .rest .1)) (c .before .before .register3 .result) (c .before .before .register3 .ensures) (c .before .read5 .ensures))
 
 pub source-of-spec : {M : Type 1} → statement M
 source-of-spec =
@@ -151,17 +151,17 @@ source-of-spec =
     plus-requires
     plus-requires-2
     fetch-requires
-    read-word-requires
+    read-requires
     operand-requires
     fetch-requires-2
     indexed-place-requires
-    read-word-requires-2
+    read-requires-2
     operand-requires-2
     fetch-requires-3
     operand-requires-3
     frame-place-requires
-    cast-read-word
-    read-word-requires-3
+    cast-read
+    read-requires-3
     operand-requires-4
     register-requires
     operand-requires-5
@@ -169,10 +169,10 @@ source-of-spec =
     cast-operand
     operand-requires-6
     register-requires-2
-    read-word-requires-4
+    read-requires-4
     operand-requires-7
     register-requires-3
-    read-byte-requires
+    read-requires-5
     operand-requires-8
     returns
     returns-2

@@ -1,11 +1,11 @@
--- `runner::Hot::store_word` meets its contract.
+-- `runner::Hot::store_at` meets its contract.
 -- Assumes nothing.
 use mathlib.Core.Path.{refl}
 use borrow.Author.Needs.{needs}
 use Rattle.pages.specs.Accesses.{not-wrote, wrote}
 use Rattle.runner.specs.Moves.{goes, stays}
-use Rattle.runner.proofs.Hot.store_word.Statement.{statement}
-use Rattle.runner.proofs.Hot.store_word.Tie as tie
+use Rattle.runner.proofs.Hot.store_at.Statement.{statement}
+use Rattle.runner.proofs.Hot.store_at.Tie as tie
 
 register-requires : tie.Need-register-requires
 register-requires c κs = search needs
@@ -16,11 +16,11 @@ stop-requires c κs = search needs
 returns : tie.Need-returns
 returns c = stays (c .stop .ensures) refl
 
-cast-write-word : tie.Need-cast-write-word
-cast-write-word c = search needs
+cast-write : tie.Need-cast-write
+cast-write c = search needs
 
-write-word-requires : tie.Need-write-word-requires
-write-word-requires c κs = search needs
+write-requires : tie.Need-write-requires
+write-requires c κs = search needs
 
 to-requires : tie.Need-to-requires
 to-requires c κs = search needs
@@ -32,7 +32,7 @@ returns-2 : tie.Need-returns-2
 returns-2 c =
     let r = c .before .before .before .before .before .before .before .register .ensures
     (c .before .before .before .before .before .before .if1 .left) in
-    goes (c .to .ensures) (r .low) (rw (r .value) at (wrote (c .before .before .before .before .write-word .ensures) (c .before .if2 .taken)))
+    goes (c .to .ensures) (r .low) (rw (r .value) at (wrote (c .before .before .before .before .write .ensures) (c .before .if2 .taken)))
 
 stop-requires-2 : tie.Need-stop-requires-2
 stop-requires-2 c κs = search needs
@@ -41,17 +41,17 @@ same-length-2 : tie.Need-same-length-2
 same-length-2 c = search needs
 
 returns-3 : tie.Need-returns-3
-returns-3 c = stays (c .stop2 .ensures) (not-wrote (c .before .before .before .before .write-word .ensures) (c .before .if2 .left))
+returns-3 c = stays (c .stop2 .ensures) (not-wrote (c .before .before .before .before .write .ensures) (c .before .if2 .left))
 
-pub store-word-spec : {M : Type 1} → statement M
-store-word-spec =
+pub store-at-spec : {M : Type 1} → statement M
+store-at-spec =
     tie.close
     (tie.spec
     register-requires
     stop-requires
     returns
-    cast-write-word
-    write-word-requires
+    cast-write
+    write-requires
     to-requires
     same-length
     returns-2
