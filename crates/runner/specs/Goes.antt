@@ -15,10 +15,10 @@ use Rattle.mmu.specs.declared.Right.the-variants.{Execute}
 use Rattle.pages.specs.Accesses.{Reads}
 use Rattle.pages.specs.Maps.{access-granted}
 use Rattle.pages.specs.declared.Width.the-variants.{Word}
-use Rattle.runner.specs.Fetch.{MapOf, begins, did}
-use Rattle.runner.specs.Hot.{hotState}
-use Rattle.runner.specs.Tells.{Tells, carried, stopped}
-use Rattle.runner.specs.declared.Hot.{Hot}
+use Rattle.hot.specs.Fetch.{MapOf, begins, did}
+use Rattle.hot.specs.Hot.{hotState}
+use Rattle.hot.specs.Tells.{Tells, carried, stopped}
+use Rattle.hot.specs.declared.Hot.{Hot}
 
 -- `steps` instructions in `states` states
 pub data Goes (st : State) (m : List ℕ) : ℕ → ℕ → State → List ℕ → Type 0 where

@@ -3,8 +3,8 @@ ghost use mathlib.Core.Path.{_≡_};
 ghost use Prim.Native.Nat.{_*_, _≤_};
 ghost use lib.ListN.{length};
 ghost use Rattle.runner.specs.Goes.{Leads};
-use crate::Hot;
 use crate::Stretch;
+use hot::Hot;
 use pages::NONE;
 use pages::fetch;
 
