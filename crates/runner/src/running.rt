@@ -12,8 +12,11 @@ use machine::Finished;
 use machine::State;
 use machine::states_of;
 
-// A run of at most `allowance` steps, with the decoding table lent, and the bounds of its counts.
-fn counted(start: State, mem: &mut [u8], allowance: u16, table: &[u32; 256]) -> Finished
+// The decoding table, lent.
+type Table = [u32; 256];
+
+// A run of at most `allowance` steps, and the bounds of its counts.
+fn counted(start: State, mem: &mut [u8], allowance: u16, table: &Table) -> Finished
     requires { ⌜ (length (now mem) ≡ 65536) × (now table ≡ tableOf) ⌝ }
     ensures runs { λ r. ⌜ (r ≡ def.finished (def.runOf allowance start (now (mem .entry)))) × (now (mem .exit) ≡ (def.runOf allowance start (now (mem .entry))) .memory) ⌝ }
     ensures counts { λ r. ⌜ (r .steps ≤ allowance) × (r .states ≤ 65535 * r .steps) ⌝ }
@@ -50,7 +53,7 @@ fn counted(start: State, mem: &mut [u8], allowance: u16, table: &[u32; 256]) -> 
 }
 
 // A run of at most `allowance` steps.
-pub fn run(start: State, mem: &mut [u8], allowance: u16, table: &[u32; 256]) -> Finished
+pub fn run(start: State, mem: &mut [u8], allowance: u16, table: &Table) -> Finished
     requires { ⌜ (length (now mem) ≡ 65536) × (now table ≡ tableOf) ⌝ }
     ensures answer { λ r. ⌜ r ≡ def.finished (def.runOf allowance start (now (mem .entry))) ⌝ }
     ensures memory { λ r. ⌜ now (mem .exit) ≡ (def.runOf allowance start (now (mem .entry))) .memory ⌝ }
@@ -59,7 +62,7 @@ pub fn run(start: State, mem: &mut [u8], allowance: u16, table: &[u32; 256]) -> 
 }
 
 // A run that goes on through kernel entries, to a halt or a loss: runs to the next entry, one after the other.
-pub fn run_through(start: State, mem: &mut [u8], allowance: u16, table: &[u32; 256]) -> Finished
+pub fn run_through(start: State, mem: &mut [u8], allowance: u16, table: &Table) -> Finished
     requires { ⌜ (length (now mem) ≡ 65536) × (now table ≡ tableOf) ⌝ }
     ensures answer { λ r. ⌜ r ≡ def.finished (def.throughOf allowance start (now (mem .entry))) ⌝ }
     ensures memory { λ r. ⌜ now (mem .exit) ≡ (def.throughOf allowance start (now (mem .entry))) .memory ⌝ }
