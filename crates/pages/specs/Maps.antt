@@ -86,12 +86,12 @@ self-more n map l e p h = by (eqb p n) refl
     by true q = let f : p ≡ n = eqb-true p n q in rw f (getD-set-same map n (n * 256 + 7) 0 l)
     by false q = let f : p ≡ n → ⊥ = eqb-false p n q in getD-set-other map n p (n * 256 + 7) 0 f ∙ e p (omega arith)
 
-pub identity-mapped : (tlb map : List ℕ) → SelfTo 256 map → Mapped false tlb map
-identity-mapped tlb map same =
-    record {
+pub identity-mapped : {on : Bool} (tlb map : List ℕ) → on ≡ false → SelfTo 256 map → Mapped on tlb map
+identity-mapped tlb map off same =
+    rw off (record {
       grants = λ right a below set.
           rw (same (upper a) (omega arith)) (plain-granted tlb right a ∙ ap (λ (x : ℕ). granted x tlb) (omega arith));
-    }
+    })
 
 -- ---- by the TLB
 
@@ -159,9 +159,9 @@ no-bit Read = refl
 no-bit Write = refl
 no-bit Execute = refl
 
-pub tlb-mapped : (tlb map : List ℕ) → ShowsFrom tlb 0 map → Mapped true tlb map
+pub tlb-mapped : {on : Bool} (tlb map : List ℕ) → on ≡ true → ShowsFrom tlb 0 map → Mapped on tlb map
 unfolding lookupOf
-tlb-mapped tlb map shows = record { grants = λ right a below set. by right a below set (lookupOf tlb (upper a)) refl }
+tlb-mapped tlb map is-on shows = rw is-on (record { grants = λ right a below set. by right a below set (lookupOf tlb (upper a)) refl })
   where
     by : (right : Right) (a : ℕ) → a < 65536 → isSet (mapBit right) (getD map (upper a) 0) ≡ true → (x : Lookup) → lookupOf tlb (upper a) ≡ x
         → byteAccess true tlb right a ≡ granted (placeIn map a) tlb

@@ -9,13 +9,13 @@ by-tlb-requires : tie.Need-by-tlb-requires
 by-tlb-requires c κs = search needs
 
 returns : tie.Need-returns
-returns c = rw (c .before .if1 .taken) (tlb-mapped (c .before .before .args .tlb) (c .by-tlb .result) (c .by-tlb .ensures))
+returns c = tlb-mapped (c .before .before .args .tlb) (c .by-tlb .result) (c .before .if1 .taken) (c .by-tlb .ensures)
 
 identity-requires : tie.Need-identity-requires
 identity-requires c κs = search needs
 
 returns-2 : tie.Need-returns-2
-returns-2 c = rw (c .before .if1 .left) (identity-mapped (c .before .before .args .tlb) (c .identity .result) (c .identity .ensures))
+returns-2 c = identity-mapped (c .before .before .args .tlb) (c .identity .result) (c .before .if1 .left) (c .identity .ensures)
 
 pub page-map-spec : {M : Type 1} → statement M
 page-map-spec =
