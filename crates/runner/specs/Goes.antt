@@ -7,17 +7,18 @@ use Prim.Native.Nat.{suc, ℕ, _+_}
 use native.Mathlib.Nat.{add-zero}
 use native.Mathlib.Omega.{arith}
 use Rattle.machine.specs.Plan.{interrupted}
-use Rattle.machine.specs.Run.{runFrom, throughFrom}
+use Rattle.machine.specs.Run.{runFrom}
 use Rattle.machine.specs.Step.{stepOf}
 use Rattle.machine.specs.declared.Condition.the-variants.{Running}
 use Rattle.machine.specs.declared.State.{State}
 use Rattle.mmu.specs.declared.Right.the-variants.{Execute}
-use Rattle.runner.specs.Accesses.{WordRead}
-use Rattle.runner.specs.Fetch.{begins, did}
-use Rattle.runner.specs.Hot.{hotState}
-use Rattle.runner.specs.Maps.{Mapped, word-granted}
-use Rattle.runner.specs.Tells.{Tells, carried, stopped}
-use Rattle.runner.specs.declared.Hot.{Hot}
+use Rattle.pages.specs.Accesses.{Reads}
+use Rattle.pages.specs.Maps.{access-granted}
+use Rattle.pages.specs.declared.Width.the-variants.{Word}
+use Rattle.hot.specs.Fetch.{MapOf, begins, did}
+use Rattle.hot.specs.Hot.{hotState}
+use Rattle.hot.specs.Tells.{Tells, carried, stopped}
+use Rattle.hot.specs.declared.Hot.{Hot}
 
 -- `steps` instructions in `states` states
 pub data Goes (st : State) (m : List ℕ) : ℕ → ℕ → State → List ℕ → Type 0 where
@@ -31,11 +32,6 @@ on : (left : ℕ) (st st′ : State) (m m′ : List ℕ) (k t n : ℕ) → st .c
 unfolding runFrom
 on left st st′ m m′ k t n c e = rw (e, c)
 
-through : (left : ℕ) (st st′ : State) (m m′ : List ℕ) (k t n : ℕ) → st .condition ≡ Running → stepOf st m ≡ did st′ m′ n
-    → throughFrom (suc left) st m k t ≡ throughFrom left st′ m′ (k + 1) (t + n)
-unfolding throughFrom
-through left st st′ m m′ k t n c e = rw (e, c)
-
 pub goes-run :
     {st st′ : State} {m m′ : List ℕ} {steps states : ℕ} → Goes st m steps states st′ m′ → (left k t : ℕ)
     → runFrom (left + steps) st m k t ≡ runFrom left st′ m′ (k + steps) (t + states)
@@ -46,16 +42,6 @@ goes-run {st} {m} (more {steps} {states} {n} {st′} {st″} {m′} {m″} g c e
     let y : t + states + n ≡ t + (states + n) = omega arith in
     ap (λ (q : ℕ). runFrom q st m k t) a ∙ goes-run g (suc left) k t ∙ on left st′ st″ m′ m″ (k + steps) (t + states) n c e ∙ rw (x, y)
 
-pub goes-through :
-    {st st′ : State} {m m′ : List ℕ} {steps states : ℕ} → Goes st m steps states st′ m′ → (left k t : ℕ)
-    → throughFrom (left + steps) st m k t ≡ throughFrom left st′ m′ (k + steps) (t + states)
-goes-through none left k t = rw (add-zero left, add-zero k, add-zero t)
-goes-through {st} {m} (more {steps} {states} {n} {st′} {st″} {m′} {m″} g c e) left k t =
-    let a : left + (steps + 1) ≡ suc left + steps = omega arith in
-    let x : k + steps + 1 ≡ k + (steps + 1) = omega arith in
-    let y : t + states + n ≡ t + (states + n) = omega arith in
-    ap (λ (q : ℕ). throughFrom q st m k t) a ∙ goes-through g (suc left) k t ∙ through left st′ st″ m′ m″ (k + steps) (t + states) n c e ∙ rw (x, y)
-
 -- ---- the loop
 
 -- a machine that runs, with no interrupt due
@@ -65,20 +51,20 @@ pub record Ready (b : State) : Type 0 where
 
 -- `steps` instructions on every such machine whose pages the map gives
 pub record Leads (map rs m : List ℕ) (h : Hot) (steps states : ℕ) (rs′ m′ : List ℕ) (h′ : Hot) : Type 0 where
-  pub goes : (b : State) → Ready b → Mapped b map → Goes (hotState b rs h) m steps states (hotState b rs′ h′) m′
+  pub goes : (b : State) → Ready b → MapOf b map → Goes (hotState b rs h) m steps states (hotState b rs′ h′) m′
 
 pub no-step : {map rs m : List ℕ} {h : Hot} → Leads map rs m h 0 0 rs m h
 no-step = record { goes = λ b ready maps. none }
 
 module _ {map rs m : List ℕ} {h : Hot} {steps states : ℕ} {rs′ m′ : List ℕ} {h′ : Hot} (l : Leads map rs m h steps states rs′ m′ h′) where
   pub one-more :
-      {w : ℕ} {rs″ m″ : List ℕ} {r : Hot} → WordRead map m′ Execute (h′ .pc) w → Tells map rs′ m′ h′ w rs″ m″ r → (r .cost ≡ 0 → ⊥)
+      {w : ℕ} {rs″ m″ : List ℕ} {r : Hot} → Reads map m′ Execute Word (h′ .pc) w → Tells map rs′ m′ h′ w rs″ m″ r → (r .cost ≡ 0 → ⊥)
       → Leads map rs m h (steps + 1) (states + r .cost) rs″ m″ r
   one-more {w} f t n =
       record {
         goes = λ b ready maps.
             more (l .goes b ready maps) (ready .running)
-            (begins (hotState b rs′ h′) m′ (f .at) w (ready .calm) (word-granted b maps (f .below) (f .placed) (f .even)) (f .value) ∙ carried t n b maps);
+            (begins (hotState b rs′ h′) m′ (f .at) w (ready .calm) (access-granted maps (f .placed)) (f .value) ∙ carried t n b maps);
       }
 
   pub no-more :

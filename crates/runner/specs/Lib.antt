@@ -1,12 +1,1 @@
-pub mod Fetch
-pub mod Hot
-pub mod Maps
-pub mod Operands
-pub mod Rows
-pub mod Operations
-pub mod Tells
 pub mod Goes
-pub mod Accesses
-pub mod Sources
-pub mod Arms
-pub mod Moves

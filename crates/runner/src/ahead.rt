@@ -3,16 +3,13 @@ ghost use mathlib.Core.Path.{_≡_};
 ghost use Prim.Native.Nat.{_*_, _≤_};
 ghost use lib.ListN.{length};
 ghost use Rattle.runner.specs.Goes.{Goes, Ready};
-ghost use Rattle.runner.specs.Hot.{hot, hotState};
-ghost use Rattle.runner.specs.Maps.{Mapped};
-use crate::Hot;
+ghost use Rattle.hot.specs.Hot.{hot, hotState};
 use crate::Part;
-use crate::map::by_tlb;
-use crate::map::identity;
 use crate::quick::quick;
+use hot::Hot;
 use machine::Condition;
 use machine::State;
-use status::Flags;
+use pages::page_map;
 
 // The registers by their numbers, SP among them.
 fn spread(state: State) -> [u16; 16]
@@ -75,17 +72,6 @@ fn gather(mut base: State, rs: [u16; 16], h: Hot) -> State
     base.set_sp(rs[13])
 }
 
-// The map of the pages.
-fn page_map(state: State) -> [u16; 256]
-    ensures { λ r. ⌜ Mapped state r ⌝ }
-{
-    if state.translates() {
-        let tlb = state.tlb;
-        return by_tlb(tlb);
-    }
-    identity()
-}
-
 // Plain instructions of a running machine with no interrupt due.
 fn stretch(state: State, mem: &mut [u8], allowance: u16) -> Part
     requires { ⌜ (length (now mem) ≡ 65536) × Ready state ⌝ }
@@ -102,7 +88,8 @@ fn stretch(state: State, mem: &mut [u8], allowance: u16) -> Part
         z: f.z,
         cost: 0,
     };
-    let map = page_map(state);
+    let tlb = state.tlb;
+    let map = page_map(state.translates(), tlb);
     let q = quick(first, &mut regs, &map, mem, allowance);
     let last = q.hot;
     Part {

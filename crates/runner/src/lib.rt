@@ -1,27 +1,13 @@
 // The runner: a second tier above the machine. Plain instructions are carried out on PC, the arithmetic flags and the registers alone; every
 // other step is the machine's.
-mod access;
 mod ahead;
-mod arm;
-mod map;
 mod quick;
 mod running;
-mod source;
-mod turn;
 
+use hot::Hot;
 use machine::State;
 pub use running::run;
 pub use running::run_through;
-
-// PC and the arithmetic flags. `cost` is the states of the last instruction, 0 where it was not carried out.
-pub struct Hot {
-    pub pc: u16,
-    pub v: bool,
-    pub c: bool,
-    pub s: bool,
-    pub z: bool,
-    pub cost: u32,
-}
 
 // The end of the loop: how many instructions, and their states.
 pub struct Stretch {

@@ -3,10 +3,10 @@ ghost use mathlib.Core.Path.{_≡_};
 ghost use Prim.Native.Nat.{_*_, _≤_};
 ghost use lib.ListN.{length};
 ghost use Rattle.runner.specs.Goes.{Leads};
-use crate::Hot;
 use crate::Stretch;
-use crate::access::NONE;
-use crate::access::fetch;
+use hot::Hot;
+use pages::NONE;
+use pages::fetch;
 
 // Plain instructions, at most `allowance`, up to one that is not.
 pub fn quick(

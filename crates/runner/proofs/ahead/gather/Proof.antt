@@ -1,7 +1,7 @@
 -- `runner::ahead::gather` meets its contract.
 -- Assumes nothing.
 use borrow.Author.Needs.{needs}
-use Rattle.runner.specs.Hot.{first-thirteen}
+use Rattle.hot.specs.Hot.{first-thirteen}
 use Rattle.runner.proofs.ahead.gather.Statement.{statement}
 use Rattle.runner.proofs.ahead.gather.Tie as tie
 

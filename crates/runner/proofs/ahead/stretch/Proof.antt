@@ -7,6 +7,9 @@ use Rattle.runner.proofs.ahead.stretch.Tie as tie
 spread-requires : tie.Need-spread-requires
 spread-requires c κs = search needs
 
+translates-requires : tie.Need-translates-requires
+translates-requires c κs = search needs
+
 page-map-requires : tie.Need-page-map-requires
 page-map-requires c κs = search needs
 
@@ -22,15 +25,14 @@ same-length c = search needs
 returns : tie.Need-returns
 returns c =
     let quick′ = c .before .before .before .before .quick in
-    let led = quick′ .ensures .0 .goes
-    (c .before .before .before .before .before .before .before .before .before .before .before .before .args .state)
-    (c .before .before .before .before .before .before .before .before .before .before .before .before .pre .1)
-    (c .before .before .before .before .before .before .before .before .page-map .ensures) in (
-      rw (c .gather .ensures) (rw (c .before .before .before .before .before .before .before .before .before .before .spread .ensures) at led),
+    let mapped = c .before .before .before .before .before .before .before .before in
+    let spread′ = mapped .before .before .before .before in
+    let led = quick′ .ensures .0 .goes (spread′ .before .before .args .state) (spread′ .before .before .pre .1) (rw (mapped .before .translates .ensures) at (mapped .page-map .ensures)) in (
+      rw (c .gather .ensures) (rw (spread′ .spread .ensures) at led),
       (quick′ .ensures .1 .0, quick′ .ensures .1 .1),
     )
 
 pub stretch-spec : {M : Type 1} → statement M
 stretch-spec =
     tie.close
-    (tie.spec spread-requires page-map-requires quick-requires gather-requires same-length returns)
+    (tie.spec spread-requires translates-requires page-map-requires quick-requires gather-requires same-length returns)

@@ -6,7 +6,7 @@ use native.Mathlib.Omega.{arith}
 use borrow.Author.Needs.{needs}
 use lib.ListN.{length}
 use Rattle.runner.specs.Goes.{Leads, no-more, no-step, one-more}
-use Rattle.runner.specs.Tells.{sized, small}
+use Rattle.hot.specs.Tells.{sized, small}
 use Rattle.runner.proofs.quick.quick.Statement.{statement}
 use Rattle.runner.proofs.quick.quick.Tie as tie
 

@@ -1,201 +1,65 @@
 -- `runner::running::run_through` meets its contract.
 -- Assumes nothing.
 use mathlib.Core.Path.{sym, _∙_}
-use Prim.Native.Nat.{_-_, _≤_}
+use Prim.Native.Nat.{_-_}
 use native.Mathlib.Omega.{arith}
 use borrow.Author.Needs.{needs}
 use Rattle.machine.proofs.Turn.{ended}
-use Rattle.runner.proofs.Onward.{Come, come, through-end, through-halt, through-loss, through-onward, through-step}
+use Rattle.runner.proofs.Onward.{Come, come, some-step, through-entry, through-last}
 use Rattle.runner.proofs.running.run_through.Statement.{statement}
 use Rattle.runner.proofs.running.run_through.Tie as tie
 
 abbrev Inv-loop : tie.InvT-loop
-Inv-loop mem₀ allowance table state₀ steps₀ states₀ spare₀ mem state steps states spare =
-    Come allowance state₀ mem₀ state mem steps states × (spare ≤ allowance - steps)
+Inv-loop mem₀ allowance table state₀ steps₀ states₀ mem state steps states = Come allowance state₀ mem₀ state mem steps states
 
 abbrev μ-loop : tie.MeasureT-loop
-μ-loop mem₀ allowance table state₀ steps₀ states₀ spare₀ mem state steps states spare = allowance - steps
+μ-loop mem₀ allowance table state₀ steps₀ states₀ mem state steps states = allowance - steps
 
 loop-holds : tie.Need-loop-holds Inv-loop μ-loop
-loop-holds c = (come _ _ _ (c .before .pre .0), omega arith)
+loop-holds c = come _ _ _ (c .before .pre .0)
 
-ahead-requires : tie.Need-ahead-requires Inv-loop μ-loop
-ahead-requires c κs = c .before .loop .inv .0 .size
+sub-counted : tie.Need-sub-counted Inv-loop μ-loop
+sub-counted c = omega (arith, c .before .loop .inv .steps)
+
+counted-requires : tie.Need-counted-requires Inv-loop μ-loop
+counted-requires c κs = (c .before .loop .inv .size, c .before .before .before .pre .1)
 
 add-steps : tie.Need-add-steps Inv-loop μ-loop
 add-steps c =
-    let l = c .before .before .before .before .before .loop in
-    let ahead′ = c .before .before .before .ahead in
-    omega (
-      arith,
-      ahead′ .ensures .1 .0,
-      ahead′ .ensures .1 .1,
-      l .inv .1,
-      l .inv .0 .steps,
-      l .inv .0 .states,
-      c .before .before .before .before .before .before .before .fits .allowance,
-    )
+    let l = c .before .before .before .before .before .loop .inv in
+    omega (arith, l .steps, c .before .before .before .counted .ensures .1 .0, c .before .before .before .before .before .before .before .fits .allowance)
 
 add-states : tie.Need-add-states Inv-loop μ-loop
 add-states c =
-    let l = c .before .before .before .before .before .before .loop in
-    let ahead′ = c .before .before .before .before .ahead in
-    omega (
-      arith,
-      ahead′ .ensures .1 .0,
-      ahead′ .ensures .1 .1,
-      l .inv .1,
-      l .inv .0 .steps,
-      l .inv .0 .states,
-      c .before .before .before .before .before .before .before .before .fits .allowance,
-    )
+    let l = c .before .before .before .before .before .before .loop .inv in
+    let counts = c .before .before .before .before .counted .ensures .1 in
+    omega (arith, l .steps, l .states, counts .0, counts .1, c .before .before .before .before .before .before .before .before .fits .allowance)
 
 enum-told : tie.Need-enum-told Inv-loop μ-loop
 enum-told c = search needs
+
+loop-less : tie.Need-loop-less Inv-loop μ-loop
+loop-less c =
+    let l = c .before .before .before .before .before .before .before .before .before .loop .inv in
+    let e = c .before .before .before .before .before .before .before .counted .ensures in
+    omega (arith, l .steps, e .1 .0, some-step l (e .0 .0) (e .0 .1) (c .enum-told .given .1))
+
+loop-again : tie.Need-loop-again Inv-loop μ-loop
+loop-again c =
+    let part = c .before .before .before .before .before .before .before .counted in
+    let e = part .ensures in
+    through-entry (c .before .before .before .before .before .before .before .before .before .loop .inv) (e .0 .0) (e .0 .1) (c .enum-told .given .1) (e .1 .0) (e .1 .1) (part .kept .1 .0)
 
 finish-requires : tie.Need-finish-requires Inv-loop μ-loop
 finish-requires c κs = search needs
 
 same-length : tie.Need-same-length Inv-loop μ-loop
-same-length c =
-    c .before .before .before .before .before .before .before .before .ahead .kept .1 .0 ∙
-    c .before .before .before .before .before .before .before .before .before .before .loop .inv .0 .size ∙ sym
-    (c .before .before .before .before .before .before .before .before .before .before .before .before .pre .0)
+same-length c = c .before .before .before .before .before .before .before .counted .kept .1 .0 ∙ c .before .before .before .before .before .before .before .before .before .loop .inv .size ∙ sym (c .before .before .before .before .before .before .before .before .before .before .before .pre .0)
 
 returns : tie.Need-returns Inv-loop μ-loop
 returns c =
-    let l = c .before .before .before .before .before .before .before .before .before .before .loop in
-    let ahead′ = c .before .before .before .before .before .before .before .before .ahead in
-    let at = through-onward (l .inv .0) (ahead′ .ensures .0) (omega (arith, ahead′ .ensures .1 .0, l .inv .1)) (ahead′ .ensures .1 .1)
-    (ahead′ .kept .1 .0) in
-    ended (through-halt at (c .before .enum-told .given .1)) (c .finish .ensures)
-
-enum-told-2 : tie.Need-enum-told-2 Inv-loop μ-loop
-enum-told-2 c = search needs
-
-finish-requires-2 : tie.Need-finish-requires-2 Inv-loop μ-loop
-finish-requires-2 c κs = search needs
-
-same-length-2 : tie.Need-same-length-2 Inv-loop μ-loop
-same-length-2 c =
-    c .before .before .before .before .before .before .before .before .ahead .kept .1 .0 ∙
-    c .before .before .before .before .before .before .before .before .before .before .loop .inv .0 .size ∙ sym
-    (c .before .before .before .before .before .before .before .before .before .before .before .before .pre .0)
-
-returns-2 : tie.Need-returns-2 Inv-loop μ-loop
-returns-2 c =
-    let l = c .before .before .before .before .before .before .before .before .before .before .loop in
-    let ahead′ = c .before .before .before .before .before .before .before .before .ahead in
-    let at = through-onward (l .inv .0) (ahead′ .ensures .0) (omega (arith, ahead′ .ensures .1 .0, l .inv .1)) (ahead′ .ensures .1 .1)
-    (ahead′ .kept .1 .0) in
-    ended (through-loss at (c .before .enum-told2 .given .1)) (c .finish2 .ensures)
-
-enum-told-3 : tie.Need-enum-told-3 Inv-loop μ-loop
-enum-told-3 c = search needs
-
-finish-requires-3 : tie.Need-finish-requires-3 Inv-loop μ-loop
-finish-requires-3 c κs = search needs
-
-same-length-3 : tie.Need-same-length-3 Inv-loop μ-loop
-same-length-3 c =
-    c .before .before .before .before .before .before .before .before .before .ahead .kept .1 .0 ∙
-    c .before .before .before .before .before .before .before .before .before .before .before .loop .inv .0 .size ∙ sym
-    (c .before .before .before .before .before .before .before .before .before .before .before .before .before .pre .0)
-
-returns-3 : tie.Need-returns-3 Inv-loop μ-loop
-returns-3 c =
-    let l = c .before .before .before .before .before .before .before .before .before .before .before .loop in
-    let ahead′ = c .before .before .before .before .before .before .before .before .before .ahead in
-    let at = through-onward (l .inv .0) (ahead′ .ensures .0) (omega (arith, ahead′ .ensures .1 .0, l .inv .1)) (ahead′ .ensures .1 .1)
-    (ahead′ .kept .1 .0) in
-    ended (through-end at (c .before .before .enum-told3 .given .1) (c .before .if1 .taken)) (c .finish3 .ensures)
-
-step-requires : tie.Need-step-requires Inv-loop μ-loop
-step-requires c κs = (
-  c .before .before .before .before .before .before .before .before .before .ahead .kept .1 .0 ∙
-      c .before .before .before .before .before .before .before .before .before .before .before .loop .inv .0 .size,
-  c .before .before .before .before .before .before .before .before .before .before .before .before .before .pre .1,
-)
-
-add-steps-2 : tie.Need-add-steps-2 Inv-loop μ-loop
-add-steps-2 c =
-    let l = c .before .before .before .before .before .before .before .before .before .before .before .before .before .before .loop in
-    let ahead′ = c .before .before .before .before .before .before .before .before .before .before .before .before .ahead in
-    omega (
-      arith,
-      c .before .before .before .before .if1 .left,
-      ahead′ .ensures .1 .0,
-      ahead′ .ensures .1 .1,
-      l .inv .1,
-      l .inv .0 .steps,
-      l .inv .0 .states,
-      c .before .before .before .before .before .before .before .before .before .before .before .before .before .before .before .before .fits .allowance,
-    )
-
-states-of-requires : tie.Need-states-of-requires Inv-loop μ-loop
-states-of-requires c κs = search needs
-
-cast-states : tie.Need-cast-states Inv-loop μ-loop
-cast-states c = search needs
-
-add-states-2 : tie.Need-add-states-2 Inv-loop μ-loop
-add-states-2 c =
-    let l = c .before .before .before .before .before .before .before .before .before .before .before .before .before .before .before .loop in
-    let ahead′ = c .before .before .before .before .before .before .before .before .before .before .before .before .before .ahead in
-    omega (
-      arith,
-      c .before .before .before .before .before .if1 .left,
-      c .states-of .ok,
-      ahead′ .ensures .1 .0,
-      ahead′ .ensures .1 .1,
-      l .inv .1,
-      l .inv .0 .steps,
-      l .inv .0 .states,
-      c .before .before .before .before .before .before .before .before .before .before .before .before .before .before .before .before .before .fits .allowance,
-    )
-
-sub-spare : tie.Need-sub-spare Inv-loop μ-loop
-sub-spare c =
-    let l = c .before .before .before .before .before .before .before .before .before .before .before .before .before .before .before .before .loop in
-    let ahead′ = c .before .before .before .before .before .before .before .before .before .before .before .before .before .before .ahead in
-    omega (
-      arith,
-      c .before .before .before .before .before .before .if1 .left,
-      ahead′ .ensures .1 .0,
-      ahead′ .ensures .1 .1,
-      l .inv .1,
-      l .inv .0 .steps,
-      l .inv .0 .states,
-      c .before .before .before .before .before .before .before .before .before .before .before .before .before .before .before .before .before .before .fits .allowance,
-    )
-
-loop-less : tie.Need-loop-less Inv-loop μ-loop
-loop-less c =
-    let l = c .before .before .before .before .before .before .before .before .before .before .before .before .before .before .before .before .loop in
-    let ahead′ = c .before .before .before .before .before .before .before .before .before .before .before .before .before .before .ahead in
-    omega (
-      arith,
-      c .before .before .before .before .before .before .if1 .left,
-      ahead′ .ensures .1 .0,
-      ahead′ .ensures .1 .1,
-      l .inv .1,
-      l .inv .0 .steps,
-      l .inv .0 .states,
-      c .before .before .before .before .before .before .before .before .before .before .before .before .before .before .before .before .before .before .fits .allowance,
-    )
-
-loop-again : tie.Need-loop-again Inv-loop μ-loop
-loop-again c =
-    let l = c .before .before .before .before .before .before .before .before .before .before .before .before .before .before .before .before .loop in
-    let ahead′ = c .before .before .before .before .before .before .before .before .before .before .before .before .before .before .ahead in
-    let step′ = c .before .before .before .before .step in
-    let at = through-onward (l .inv .0) (ahead′ .ensures .0) (omega (arith, ahead′ .ensures .1 .0, l .inv .1)) (ahead′ .ensures .1 .1)
-    (ahead′ .kept .1 .0) in (
-      through-step at (c .before .before .before .before .before .before .before .enum-told3 .given .1)
-          (c .before .before .before .before .before .before .if1 .left) (step′ .ensures) (c .before .states-of .ensures) (step′ .kept .1 .0)
-          (omega (arith, c .before .states-of .ok)),
-      omega arith,
-    )
+    let e = c .before .before .before .before .before .before .before .counted .ensures .0 in
+    ended (through-last (c .before .before .before .before .before .before .before .before .before .loop .inv) (e .0) (e .1) (c .before .match .keys2)) (c .finish .ensures)
 
 pub run-through-spec : {M : Type 1} → statement M
 run-through-spec =
@@ -204,26 +68,13 @@ run-through-spec =
     Inv-loop
     μ-loop
     loop-holds
-    ahead-requires
+    sub-counted
+    counted-requires
     add-steps
     add-states
     enum-told
+    loop-less
+    loop-again
     finish-requires
     same-length
-    returns
-    enum-told-2
-    finish-requires-2
-    same-length-2
-    returns-2
-    enum-told-3
-    finish-requires-3
-    same-length-3
-    returns-3
-    step-requires
-    add-steps-2
-    states-of-requires
-    cast-states
-    add-states-2
-    sub-spare
-    loop-less
-    loop-again)
+    returns)

@@ -1,0 +1,129 @@
+-- `hot::Hot::call` meets its contract.
+-- Assumes nothing.
+use mathlib.Core.Path.{refl}
+use native.Mathlib.Omega.{arith}
+use borrow.Author.Needs.{needs}
+use Rattle.pages.specs.Accesses.{not-wrote, wrote}
+use Rattle.hot.specs.Moves.{call-tells}
+use Rattle.hot.specs.Tells.{stop}
+use Rattle.hot.proofs.Hot.call.Statement.{statement}
+use Rattle.hot.proofs.Hot.call.Tie as tie
+
+stop-requires : tie.Need-stop-requires
+stop-requires c κs = search needs
+
+returns : tie.Need-returns
+returns c = stop (c .stop .ensures) refl refl
+
+added-requires : tie.Need-added-requires
+added-requires c κs = search needs
+
+stop-requires-2 : tie.Need-stop-requires-2
+stop-requires-2 c κs = search needs
+
+returns-2 : tie.Need-returns-2
+returns-2 c = stop (c .stop2 .ensures) refl refl
+
+plus-requires : tie.Need-plus-requires
+plus-requires c κs = search needs
+
+fetch-requires : tie.Need-fetch-requires
+fetch-requires c κs = search needs
+
+stop-requires-3 : tie.Need-stop-requires-3
+stop-requires-3 c κs = search needs
+
+same-length : tie.Need-same-length
+same-length c = search needs
+
+returns-3 : tie.Need-returns-3
+returns-3 c = stop (c .stop3 .ensures) refl refl
+
+element-copy-out-minus : tie.Need-element-copy-out-minus
+element-copy-out-minus c = search needs
+
+minus-requires : tie.Need-minus-requires
+minus-requires c κs = search needs
+
+cast-write : tie.Need-cast-write
+cast-write c = search needs
+
+plus-requires-2 : tie.Need-plus-requires-2
+plus-requires-2 c κs = search needs
+
+write-requires : tie.Need-write-requires
+write-requires c κs = search needs
+
+element-write-regs : tie.Need-element-write-regs
+element-write-regs c = search needs
+
+add-to : tie.Need-add-to
+add-to c =
+    omega (
+      arith,
+      c .before .before .before .before .before .before .before .before .if3 .left,
+      c .before .before .before .before .before .before .before .before .before .before .before .before .if2 .left,
+    )
+
+cast-to : tie.Need-cast-to
+cast-to c = search needs
+
+to-requires : tie.Need-to-requires
+to-requires c κs = search needs
+
+same-length-2 : tie.Need-same-length-2
+same-length-2 c = search needs
+
+returns-4 : tie.Need-returns-4
+returns-4 c =
+    let a = c .before .before .before .before .before .before .before .before .before .before .before .before .before .before .before .before .before .before .args in
+    let pre′ = c .before .before .before .before .before .before .before .before .before .before .before .before .before .before .before .before .before .before .pre in
+    let fetch′ = c .before .before .before .before .before .before .before .before .before .before .fetch in
+    let if3′ = c .before .before .before .before .before .before .before .before .before .if3 in
+    let minus′ = c .before .before .before .before .before .before .before .minus in
+    let plus2′ = c .before .before .before .before .before .plus2 in
+    rw (c .to .ensures) (call-tells (a .map .now) (a .regs .now) (pre′ .0) (a .mem .now) (a .self) (a .w)
+    (c .before .before .before .before .before .before .before .before .before .before .before .before .before .before .before .before .if1 .left)
+    (c .before .before .before .before .before .before .before .before .before .before .before .before .before .before .added .ensures
+    (c .before .before .before .before .before .before .before .before .before .before .before .before .before .if2 .left)) (fetch′ .result)
+    (rw (c .before .before .before .before .before .before .before .before .before .before .before .plus .ensures) at (fetch′ .ensures (if3′ .left)))
+    (pre′ .3) (if3′ .left) _ refl (plus2′ .result) (plus2′ .ensures) (minus′ .result) (minus′ .ensures)
+    (wrote (c .before .before .before .before .write .ensures) (c .before .if4 .taken)))
+
+stop-requires-4 : tie.Need-stop-requires-4
+stop-requires-4 c κs = search needs
+
+same-length-3 : tie.Need-same-length-3
+same-length-3 c = search needs
+
+returns-5 : tie.Need-returns-5
+returns-5 c = stop (c .stop4 .ensures) refl (not-wrote (c .before .before .before .before .write .ensures) (c .before .if4 .left))
+
+pub call-spec : {M : Type 1} → statement M
+call-spec =
+    tie.close
+    (tie.spec
+    stop-requires
+    returns
+    added-requires
+    stop-requires-2
+    returns-2
+    plus-requires
+    fetch-requires
+    stop-requires-3
+    same-length
+    returns-3
+    element-copy-out-minus
+    minus-requires
+    cast-write
+    plus-requires-2
+    write-requires
+    element-write-regs
+    add-to
+    cast-to
+    to-requires
+    same-length-2
+    returns-4
+    stop-requires-4
+    same-length-3
+    returns-5)

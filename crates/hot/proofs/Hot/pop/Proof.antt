@@ -1,0 +1,85 @@
+-- `hot::Hot::pop` meets its contract.
+-- Assumes nothing.
+use mathlib.Core.Path.{refl}
+use native.Mathlib.Omega.{arith}
+use borrow.Author.Needs.{needs}
+use Rattle.hot.specs.Moves.{pop-tells}
+use Rattle.hot.specs.Tells.{stop}
+use Rattle.hot.proofs.Hot.pop.Statement.{statement}
+use Rattle.hot.proofs.Hot.pop.Tie as tie
+
+cast-d : tie.Need-cast-d
+cast-d c = search needs
+
+stop-requires : tie.Need-stop-requires
+stop-requires c κs = search needs
+
+returns : tie.Need-returns
+returns c = stop (c .stop .ensures) refl refl
+
+element-copy-out-sp : tie.Need-element-copy-out-sp
+element-copy-out-sp c = search needs
+
+wide-requires : tie.Need-wide-requires
+wide-requires c κs = search needs
+
+read-requires : tie.Need-read-requires
+read-requires c κs = search needs
+
+stop-requires-2 : tie.Need-stop-requires-2
+stop-requires-2 c κs = search needs
+
+returns-2 : tie.Need-returns-2
+returns-2 c = stop (c .stop2 .ensures) refl refl
+
+plus-requires : tie.Need-plus-requires
+plus-requires c κs = search needs
+
+element-write-regs : tie.Need-element-write-regs
+element-write-regs c = search needs
+
+cast-regs : tie.Need-cast-regs
+cast-regs c = search needs
+
+mul-regs : tie.Need-mul-regs
+mul-regs c = search needs
+
+element-write-regs-2 : tie.Need-element-write-regs-2
+element-write-regs-2 c = search needs
+
+plus-requires-2 : tie.Need-plus-requires-2
+plus-requires-2 c κs = search needs
+
+to-requires : tie.Need-to-requires
+to-requires c κs = search needs
+
+returns-3 : tie.Need-returns-3
+returns-3 c =
+    let a = c .before .before .before .before .before .before .before .before .before .args in
+    let pre′ = c .before .before .before .before .before .before .before .before .before .pre in
+    let readword′ = c .before .before .before .before .read in
+    rw (c .to .ensures) (pop-tells (a .map .now) (a .regs .now) (pre′ .0) (a .mem .now) (a .self) (a .w) (c .before .plus2 .result)
+    (c .before .plus2 .ensures) (pre′ .2) (omega (arith, c .before .before .before .before .before .before .before .if1 .left))
+    (c .before .before .plus .result) (readword′ .result) (c .before .before .plus .ensures)
+    (rw (c .before .before .before .before .before .wide .ensures) at (readword′ .ensures (c .before .before .before .if2 .left))))
+
+pub pop-spec : {M : Type 1} → statement M
+pop-spec =
+    tie.close
+    (tie.spec
+    cast-d
+    stop-requires
+    returns
+    element-copy-out-sp
+    wide-requires
+    read-requires
+    stop-requires-2
+    returns-2
+    plus-requires
+    element-write-regs
+    cast-regs
+    mul-regs
+    element-write-regs-2
+    plus-requires-2
+    to-requires
+    returns-3)

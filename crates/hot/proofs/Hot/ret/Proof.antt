@@ -1,0 +1,68 @@
+-- `hot::Hot::ret` meets its contract.
+-- Assumes nothing.
+use mathlib.Core.Path.{refl}
+use native.Mathlib.Omega.{arith}
+use borrow.Author.Needs.{needs}
+use Rattle.hot.specs.Moves.{ret-tells}
+use Rattle.hot.specs.Tells.{stop}
+use Rattle.hot.proofs.Hot.ret.Statement.{statement}
+use Rattle.hot.proofs.Hot.ret.Tie as tie
+
+stop-requires : tie.Need-stop-requires
+stop-requires c κs = search needs
+
+returns : tie.Need-returns
+returns c = stop (c .stop .ensures) refl refl
+
+element-copy-out-sp : tie.Need-element-copy-out-sp
+element-copy-out-sp c = search needs
+
+wide-requires : tie.Need-wide-requires
+wide-requires c κs = search needs
+
+read-requires : tie.Need-read-requires
+read-requires c κs = search needs
+
+stop-requires-2 : tie.Need-stop-requires-2
+stop-requires-2 c κs = search needs
+
+returns-2 : tie.Need-returns-2
+returns-2 c = stop (c .stop2 .ensures) refl refl
+
+plus-requires : tie.Need-plus-requires
+plus-requires c κs = search needs
+
+element-write-regs : tie.Need-element-write-regs
+element-write-regs c = search needs
+
+cast-to : tie.Need-cast-to
+cast-to c = search needs
+
+to-requires : tie.Need-to-requires
+to-requires c κs = search needs
+
+returns-3 : tie.Need-returns-3
+returns-3 c =
+    let a = c .before .before .before .before .before .before .before .before .args in
+    let pre′ = c .before .before .before .before .before .before .before .before .pre in
+    let readword′ = c .before .before .before .read in
+    rw (c .to .ensures) (ret-tells (a .map .now) (a .regs .now) (pre′ .0) (a .mem .now) (a .self) (a .w)
+    (omega (arith, pre′ .2, c .before .before .before .before .before .before .if1 .left)) (c .before .plus .result) (readword′ .result)
+    (c .before .plus .ensures) (rw (c .before .before .before .before .wide .ensures) at (readword′ .ensures (c .before .before .if2 .left))))
+
+pub ret-spec : {M : Type 1} → statement M
+ret-spec =
+    tie.close
+    (tie.spec
+    stop-requires
+    returns
+    element-copy-out-sp
+    wide-requires
+    read-requires
+    stop-requires-2
+    returns-2
+    plus-requires
+    element-write-regs
+    cast-to
+    to-requires
+    returns-3)

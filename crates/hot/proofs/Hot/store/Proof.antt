@@ -1,0 +1,176 @@
+-- `hot::Hot::store` meets its contract.
+-- Assumes nothing.
+use mathlib.Core.Path.{refl, _∙_}
+use native.Mathlib.Omega.{arith}
+use borrow.Author.Needs.{needs}
+use Rattle.hot.specs.Moves.{byte-indirect, direct, framed, indexed, indirect, store-tells}
+use Rattle.hot.specs.Sources.{byte-named, direct-named, frame-named, indexed-named, indirect-named}
+use Rattle.hot.specs.Tells.{stop}
+use Rattle.hot.proofs.Hot.store.Statement.{statement}
+use Rattle.hot.proofs.Hot.store.Tie as tie
+
+plus-requires : tie.Need-plus-requires
+plus-requires c κs = search needs
+
+fetch-requires : tie.Need-fetch-requires
+fetch-requires c κs = search needs
+
+plus-requires-2 : tie.Need-plus-requires-2
+plus-requires-2 c κs = search needs
+
+store-at-requires : tie.Need-store-at-requires
+store-at-requires c κs = search needs
+
+plus-requires-3 : tie.Need-plus-requires-3
+plus-requires-3 c κs = search needs
+
+fetch-requires-2 : tie.Need-fetch-requires-2
+fetch-requires-2 c κs = search needs
+
+indexed-place-requires : tie.Need-indexed-place-requires
+indexed-place-requires c κs = search needs
+
+plus-requires-4 : tie.Need-plus-requires-4
+plus-requires-4 c κs = search needs
+
+store-at-requires-2 : tie.Need-store-at-requires-2
+store-at-requires-2 c κs = search needs
+
+frame-place-requires : tie.Need-frame-place-requires
+frame-place-requires c κs = search needs
+
+wide-requires : tie.Need-wide-requires
+wide-requires c κs = search needs
+
+plus-requires-5 : tie.Need-plus-requires-5
+plus-requires-5 c κs = search needs
+
+store-at-requires-3 : tie.Need-store-at-requires-3
+store-at-requires-3 c κs = search needs
+
+register-requires : tie.Need-register-requires
+register-requires c κs = search needs
+
+plus-requires-6 : tie.Need-plus-requires-6
+plus-requires-6 c κs = search needs
+
+store-at-requires-4 : tie.Need-store-at-requires-4
+store-at-requires-4 c κs = search needs
+
+register-requires-2 : tie.Need-register-requires-2
+register-requires-2 c κs = search needs
+
+plus-requires-7 : tie.Need-plus-requires-7
+plus-requires-7 c κs = search needs
+
+store-at-requires-5 : tie.Need-store-at-requires-5
+store-at-requires-5 c κs = search needs
+
+stop-requires : tie.Need-stop-requires
+stop-requires c κs = search needs
+
+same-length : tie.Need-same-length
+same-length c = search needs
+
+returns : tie.Need-returns
+returns c =
+    let a = c .before .before .before .before .before .before .before .before .before .before .args in
+    let pre′ = c .before .before .before .before .before .before .before .before .before .before .pre in
+    let fetch′ = c .before .before .before .before .before .fetch in
+    store-tells (a .map .now) (a .regs .now) (pre′ .0) (a .mem .now) (a .self) (a .w) (pre′ .3) 0
+    (c .before .before .before .before .before .before .before .before .match .keys1) direct (omega arith) (omega arith)
+    (direct-named (a .regs .now) (a .map .now) (a .mem .now) (a .self .pc) (a .w) _ (c .before .before .before .plus2 .ensures) (fetch′ .result)
+    (rw (c .before .before .before .before .before .before .plus .ensures) at (fetch′ .ensures))) (c .before .before .store-at .ensures)
+
+same-length-2 : tie.Need-same-length-2
+same-length-2 c = search needs
+
+returns-2 : tie.Need-returns-2
+returns-2 c =
+    let a = c .before .before .before .before .before .before .before .before .before .before .before .args in
+    let pre′ = c .before .before .before .before .before .before .before .before .before .before .before .pre in
+    let fetch2′ = c .before .before .before .before .before .before .fetch2 in
+    let indexedplace′ = c .before .before .before .before .before .indexed-place in
+    store-tells (a .map .now) (a .regs .now) (pre′ .0) (a .mem .now) (a .self) (a .w) (pre′ .3) 1
+    (c .before .before .before .before .before .before .before .before .before .match .keys2) indexed (omega arith) (omega arith)
+    (indexed-named (a .regs .now) (a .map .now) (a .mem .now) (a .self .pc) (a .w) _ (c .before .before .before .plus4 .ensures) (fetch2′ .result)
+    (rw (c .before .before .before .before .before .before .before .plus3 .ensures) at (fetch2′ .ensures)) (indexedplace′ .result) (indexedplace′ .ensures))
+    (c .before .before .store-at2 .ensures)
+
+same-length-3 : tie.Need-same-length-3
+same-length-3 c = search needs
+
+returns-3 : tie.Need-returns-3
+returns-3 c =
+    let a = c .before .before .before .before .before .before .before .before .before .args in
+    let pre′ = c .before .before .before .before .before .before .before .before .before .pre in
+    let wide′ = c .before .before .before .before .before .wide in
+    store-tells (a .map .now) (a .regs .now) (pre′ .0) (a .mem .now) (a .self) (a .w) (pre′ .3) 3
+    (c .before .before .before .before .before .before .before .match .keys3) framed (omega arith) (omega arith)
+    (frame-named (a .regs .now) (a .map .now) (a .mem .now) (a .self .pc) (a .w) _ (c .before .before .before .plus5 .ensures) (wide′ .result)
+    (wide′ .ensures ∙ c .before .before .before .before .before .before .frame-place .ensures)) (c .before .before .store-at3 .ensures)
+
+same-length-4 : tie.Need-same-length-4
+same-length-4 c = search needs
+
+returns-4 : tie.Need-returns-4
+returns-4 c =
+    let a = c .before .before .before .before .before .before .before .before .args in
+    let pre′ = c .before .before .before .before .before .before .before .before .pre in
+    let register′ = c .before .before .before .before .before .register in
+    store-tells (a .map .now) (a .regs .now) (pre′ .0) (a .mem .now) (a .self) (a .w) (pre′ .3) 6
+    (c .before .before .before .before .before .before .match .keys4) indirect (omega arith) (omega arith)
+    (indirect-named (a .regs .now) (a .map .now) (a .mem .now) (a .self .pc) (a .w) _ (c .before .before .before .plus6 .ensures) (register′ .result)
+    (register′ .ensures)) (c .before .before .store-at4 .ensures)
+
+same-length-5 : tie.Need-same-length-5
+same-length-5 c = search needs
+
+returns-5 : tie.Need-returns-5
+returns-5 c =
+    let a = c .before .before .before .before .before .before .before .before .args in
+    let pre′ = c .before .before .before .before .before .before .before .before .pre in
+    let register2′ = c .before .before .before .before .before .register2 in
+    store-tells (a .map .now) (a .regs .now) (pre′ .0) (a .mem .now) (a .self) (a .w) (pre′ .3) 7
+    (c .before .before .before .before .before .before .match .keys5) byte-indirect (omega arith) (omega arith)
+    (byte-named (a .regs .now) (a .map .now) (a .mem .now) (a .self .pc) (a .w) _ (c .before .before .before .plus7 .ensures) (register2′ .result)
+    (register2′ .ensures)) (c .before .before .store-at5 .ensures)
+
+returns-6 : tie.Need-returns-6
+returns-6 c = stop (c .stop .ensures) refl refl
+
+pub store-spec : {M : Type 1} → statement M
+store-spec =
+    tie.close
+    (tie.spec
+    plus-requires
+    fetch-requires
+    plus-requires-2
+    store-at-requires
+    plus-requires-3
+    fetch-requires-2
+    indexed-place-requires
+    plus-requires-4
+    store-at-requires-2
+    frame-place-requires
+    wide-requires
+    plus-requires-5
+    store-at-requires-3
+    register-requires
+    plus-requires-6
+    store-at-requires-4
+    register-requires-2
+    plus-requires-7
+    store-at-requires-5
+    stop-requires
+    same-length
+    returns
+    same-length-2
+    returns-2
+    same-length-3
+    returns-3
+    same-length-4
+    returns-4
+    same-length-5
+    returns-5
+    returns-6)

@@ -1,0 +1,19 @@
+-- `hot::turn::added` meets its contract.
+-- Assumes nothing.
+use mathlib.Core.Path.{refl}
+use borrow.Author.Needs.{needs}
+use Rattle.hot.specs.Moves.{none, one}
+use Rattle.hot.proofs.turn.added.Statement.{statement}
+use Rattle.hot.proofs.turn.added.Tie as tie
+
+returns : tie.Need-returns
+returns c = λ l. none (c .if1 .taken) refl
+
+register-requires : tie.Need-register-requires
+register-requires c κs = search needs
+
+returns-2 : tie.Need-returns-2
+returns-2 c = λ l. one (c .before .if1 .left) (c .register .ensures l)
+
+pub added-spec : {M : Type 1} → statement M
+added-spec = tie.close (tie.spec returns register-requires returns-2)

@@ -1,0 +1,292 @@
+-- The operation stage: what an instruction does once its operand is known, on hot states.
+-- Assumes nothing.
+use mathlib.Core.Bool.{Bool, and-false, false, true, _&&_}
+use mathlib.Core.List.{List}
+use mathlib.Core.Path.{ap, refl, _∙_, _≡_}
+use Prim.Native.Nat.{ℕ, _*_, _+_, _<_}
+use native.Mathlib.Omega.{arith}
+use borrow.Author.Tests.{ne-eqb}
+use lib.Dec.{eqb}
+use lib.ListN.{getD, length, length-set, set}
+use Rattle.decode.specs.Code.{CALL, CMP, JUMP, LD, NO, POP, PUSH, RET, ST}
+use Rattle.decode.specs.Decode.{fieldsBad, firstOf, hasSecond, operandOf, rdField, rxField, usesRx}
+use Rattle.decode.specs.Instructions.{RdUse, addStates, condition, costOf, divStates, eight, inModes, inRows, modeBits, opcodeOf, register, row, rows, shiftStates, single, statesAt, unused}
+use Rattle.decode.specs.declared.DataAccess.{DataAccess}
+use Rattle.decode.specs.declared.DataAccess.the-variants as data-access
+use Rattle.decode.specs.declared.Flow.{Flow}
+use Rattle.decode.specs.declared.Flow.the-variants as flow
+use Rattle.decode.specs.declared.Instruction.{Instruction}
+use Rattle.decode.specs.declared.Operand.{Operand}
+use Rattle.decode.specs.declared.Operand.the-variants as operand
+use Rattle.machine.specs.Enter.{Outcome}
+use Rattle.machine.specs.Execute.{afterOperation, aluOf, bodyOf, eventOf, withResult}
+use Rattle.machine.specs.Flag.{flagOf}
+use Rattle.plan.specs.Need.{addressOf, needOf, valueStored}
+use Rattle.machine.specs.Plan.{planFirst, planOperand, planned, taken, translates}
+use Rattle.plan.specs.End.{endOf}
+use Rattle.status.specs.Flag.{holds}
+use Rattle.machine.specs.Register.{regOf, spOf, withReg}
+use Rattle.machine.specs.State.{withPc}
+use Rattle.machine.specs.Step.{commit}
+use Rattle.machine.specs.Transfer.{transferOf}
+use Rattle.machine.specs.declared.Operation.{Operation}
+use Rattle.machine.specs.declared.Plan.the-variants.{Perform}
+use Rattle.machine.specs.declared.State.{State}
+use Rattle.machine.specs.declared.Transfer.the-variants.{Done}
+use Rattle.mmu.specs.Access.{granted}
+use Rattle.mmu.specs.Memory.{storeWord, stored, wordAt}
+use Rattle.mmu.specs.declared.Right.the-variants.{Read, Write}
+use Rattle.mmu.specs.declared.Store.{Store}
+use Rattle.mmu.specs.declared.Store.the-variants as store
+use Rattle.pages.specs.Accesses.{writeAt}
+use Rattle.pages.specs.Maps.{accessOf}
+use Rattle.pages.specs.declared.Width.{Width}
+use Rattle.pages.specs.declared.Width.the-variants.{Byte, Word}
+use Rattle.word.specs.Alu.{places, subOf}
+use Rattle.word.specs.Jump.{conditionOf}
+use Rattle.word.specs.Word.{minus, plus, upper}
+use Rattle.word.specs.declared.alu.Alu.{Alu}
+use Rattle.hot.specs.Fetch.{Grants, accessed, carriedOut, defined, did, one-word, readied}
+use Rattle.hot.specs.Hot.{hot, hotState, reg-hot, sp-hot, sp-with-hot, with-hot}
+use Rattle.hot.specs.Operands.{Addressed, Reached, Sourced}
+use Rattle.hot.specs.Rows.{Computes, Opens, add, addCost, adds, and, cmp, div, loadCost, modulo, mul, opens, opens-compute, opens-load, or, shla, shll, shra, shrl, sub, xor}
+use Rattle.hot.specs.declared.Hot.{Hot}
+
+-- the first word w leads with its operand to the instruction
+module _ (st : State) (m : List ℕ) (w : ℕ) {byte code mode cost : ℕ} {field : RdUse} {access : DataAccess} {flow : Flow} where
+  pub enters :
+      Opens byte code mode field access flow cost → upper w ≡ byte → fieldsBad field mode (rdField w) (rxField w) ≡ false
+      → (x : Operand) (next : ℕ) → Reached st m w mode x next
+      → planFirst (firstOf w) st m
+      ≡ planOperand st m (record { code = code; rd = rdField w; operand = x; cost = cost; access = access; flow = flow }) next
+  enters o e fine x next reached =
+      defined st m (o .row) mode w (rw e (o .opcode)) (rw (o .rd) fine) (o .privilege)
+      ∙ reached (o .row)
+      ∙ rw (o .states, o .number, o .accesses, o .flows)
+
+-- the last field is fine in the mode
+abbrev pub RxFine : ℕ → ℕ → Type 0
+RxFine mode w = (eqb (rxField w) 15 && usesRx mode) ≡ false
+
+fields-register : (mode w : ℕ) → rdField w < 14 → RxFine mode w → fieldsBad register mode (rdField w) (rxField w) ≡ false
+unfolding fieldsBad
+fields-register mode w l e = rw (ne-eqb (rdField w) 15 (λ q. omega arith), e)
+
+fields-unused : (mode w : ℕ) → RxFine mode w → fieldsBad unused mode (rdField w) (rxField w) ≡ false
+unfolding fieldsBad
+fields-unused mode w e = rw e
+
+fields-condition : (mode w : ℕ) → (rdField w ≡ 13 → ⊥) → RxFine mode w → fieldsBad condition mode (rdField w) (rxField w) ≡ false
+unfolding fieldsBad
+fields-condition mode w n e = rw (ne-eqb (rdField w) 13 n, e)
+
+-- an operation from ADD to SHRL but CMP
+module _ (st : State) (m : List ℕ) (rd held source port pc states : ℕ) where
+  abbrev op : ℕ → Operation
+  op code = record { code = code; rd = rd; held = held; source = source; port = port; pc = pc; states = states; store = store.Nothing }
+
+  abbrev after : ℕ → Outcome
+  after code =
+      let r : Alu = aluOf code held source in did (withReg (withResult (withPc st pc) r) rd (r .value)) m states
+
+  carries : {code extra : ℕ} {flow : Flow} → Computes code flow extra → (code ≡ CMP → ⊥) → commit (Perform (op code)) st m ≡ after code
+  unfolding commit afterOperation bodyOf eventOf stored
+  carries add n = refl
+  carries sub n = refl
+  carries cmp n = absurd (n refl)
+  carries and n = refl
+  carries or n = refl
+  carries xor n = refl
+  carries adds n = refl
+  carries mul n = refl
+  carries div n = refl
+  carries modulo n = refl
+  carries shla n = refl
+  carries shll n = refl
+  carries shra n = refl
+  carries shrl n = refl
+
+-- what becomes of the hot state by the first word w: registers, PC, flags, memory, states
+abbrev pub Does : State → List ℕ → Hot → List ℕ → ℕ → List ℕ → ℕ → Bool → Bool → Bool → Bool → List ℕ → ℕ → Type 0
+Does b rs h m w rs′ pc v c s z m′ n = carriedOut (planFirst (firstOf w) (hotState b rs h) m) m ≡ did (hot b rs′ pc v c s z) m′ n
+
+module _ (b : State) (rs : List ℕ) (size : length rs ≡ 16) (h : Hot) (m : List ℕ) (w : ℕ) where
+  abbrev st : State
+  st = hotState b rs h
+
+  abbrev rd : ℕ
+  rd = rdField w
+
+  abbrev held : ℕ
+  held = getD rs (rdField w) 0
+
+  reg : (n : ℕ) → n < 14 → regOf st n ≡ getD rs n 0
+  reg n l = reg-hot b rs (h .pc) (h .v) (h .c) (h .s) (h .z) n l
+
+  -- ---- with a source
+
+  module _ (low : rd < 14) (mode : ℕ) (below : mode < 8) (fine : RxFine mode w) (x next : ℕ) (s : Sourced st m w mode x next) where
+    -- the instruction comes to its end with the source
+    ends :
+        {byte code cost : ℕ} {f : Flow} → Opens byte code mode register data-access.Source f cost → upper w ≡ byte
+        → planFirst (firstOf w) st m
+        ≡ planned (endOf f (record {
+          code = code;
+          rd = rd;
+          held = regOf st rd;
+          address = addressOf (regOf st) (s .operand);
+          following = next;
+          cost = cost;
+          source = x;
+          second = 0;
+          store = store.Nothing;
+        }) (h .pc) (taken st rd)) st
+    unfolding needOf
+    ends o e =
+        enters st m w o e (fields-register mode w low fine) (s .operand) next (s .reached)
+        ∙ accessed st m _ next x store.Nothing (s .source _)
+
+    pub load-does : upper w ≡ LD * 8 + mode → Does b rs h m w (set rs rd x) next (h .v) (h .c) (h .s) (h .z) m (loadCost mode)
+    unfolding endOf commit afterOperation bodyOf eventOf stored
+    load-does e =
+        rw (ends (opens-load mode below) e)
+        (ap (λ (q : State). did q m (loadCost mode)) (with-hot b rs next (h .v) (h .c) (h .s) (h .z) size rd x low))
+
+    pub compare-does :
+        upper w ≡ CMP * 8 + mode → (r : Alu) → r ≡ subOf held x
+        → Does b rs h m w rs next (r .v) (r .c) (r .s) (r .z) m (addCost mode + 0)
+    unfolding endOf commit afterOperation bodyOf eventOf stored
+    compare-does e r q = rw (ends (opens-compute cmp mode below) e, reg rd low, ← q)
+
+    module _ {code extra : ℕ} (r : Alu) (q : r ≡ aluOf code held x) (not-cmp : code ≡ CMP → ⊥) (e : upper w ≡ code * 8 + mode) where
+      done : (port states : ℕ) {f : Flow} → Computes code f extra
+          → commit (Perform (op st m rd (regOf st rd) x port next states code)) st m
+          ≡ did (hot b (set rs rd (r .value)) next (r .v) (r .c) (r .s) (r .z)) m states
+      done port states c =
+          carries st m rd (regOf st rd) x port next states c not-cmp
+          ∙ rw (reg rd low, ← q) (ap (λ (y : State). did y m states) (with-hot b rs next (r .v) (r .c) (r .s) (r .z) size rd (r .value) low))
+
+      pub next-does : Computes code flow.Next extra → Does b rs h m w (set rs rd (r .value)) next (r .v) (r .c) (r .s) (r .z) m (addCost mode + extra)
+      unfolding endOf
+      next-does c = ap (λ p. carriedOut p m) (ends (opens-compute c mode below) e) ∙ done _ _ c
+
+      pub divide-does : Computes code flow.Divide extra → (x ≡ 0 → ⊥) → Does b rs h m w (set rs rd (r .value)) next (r .v) (r .c) (r .s) (r .z) m (addCost mode + extra)
+      unfolding endOf
+      divide-does c n = ap (λ p. carriedOut p m) (ends (opens-compute c mode below) e) ∙ rw (ne-eqb x 0 n) (done _ _ c)
+
+      pub shift-does : Computes code flow.Shift extra → Does b rs h m w (set rs rd (r .value)) next (r .v) (r .c) (r .s) (r .z) m (addCost mode + extra + places x)
+      unfolding endOf
+      shift-does c = ap (λ p. carriedOut p m) (ends (opens-compute c mode below) e) ∙ done _ _ c
+
+  -- ---- without
+
+  -- the instruction comes to its end, its data access done
+  module _ {byte code mode cost : ℕ} {field : RdUse} {access : DataAccess} {f : Flow} (o : Opens byte code mode field access f cost) (e : upper w ≡ byte)
+      (fine : fieldsBad field mode (rdField w) (rxField w) ≡ false) (x : Operand) (next : ℕ) (reached : Reached st m w mode x next) where
+    abbrev ins : Instruction
+    ins = record { code = code; rd = rd; operand = x; cost = cost; access = access; flow = f }
+
+    finishes :
+        (source : ℕ) (s : Store)
+        → transferOf (needOf access (regOf st) (spOf st) (flagOf st) (addressOf (regOf st) x) x) (translates st) (st .tlb) m (valueStored code (regOf st rd) next)
+        ≡ record { transfer = Done source 0 s; tlb = st .tlb }
+        → planFirst (firstOf w) st m ≡ planned (endOf f (readied st ins next source s) (h .pc) (taken st rd)) st
+    finishes source s t = enters st m w o e fine x next reached ∙ accessed st m ins next source s t
+
+  module _ {byte mode cost a next : ℕ} {width : Width} (e : upper w ≡ byte) (fine : RxFine mode w) (p : Addressed st m w mode a next width) where
+    module _ (o : Opens byte JUMP mode condition data-access.None flow.Jump cost) (n : rd ≡ 13 → ⊥) where
+      pub jump-does : holds (conditionOf rd (h .v) (h .c) (h .s) (h .z)) ≡ true → Does b rs h m w rs a (h .v) (h .c) (h .s) (h .z) m (cost + 1)
+      unfolding needOf transferOf endOf commit afterOperation bodyOf eventOf stored
+      jump-does t = rw (finishes o e (fields-condition mode w n fine) (p .operand) next (p .reached) 0 store.Nothing refl, t, p .address)
+
+      pub pass-does : holds (conditionOf rd (h .v) (h .c) (h .s) (h .z)) ≡ false → Does b rs h m w rs next (h .v) (h .c) (h .s) (h .z) m cost
+      unfolding needOf transferOf endOf commit afterOperation bodyOf eventOf stored
+      pass-does t = rw (finishes o e (fields-condition mode w n fine) (p .operand) next (p .reached) 0 store.Nothing refl, t)
+
+    pub call-does :
+        Opens byte CALL mode unused data-access.Push flow.Call cost → (sp at : ℕ) → sp ≡ minus (getD rs 13 0) 2 → Grants b Write sp at
+        → Does b rs h m w (set rs 13 sp) a (h .v) (h .c) (h .s) (h .z) (storeWord m at next) cost
+    unfolding needOf valueStored transferOf endOf commit afterOperation bodyOf eventOf stored
+    call-does o sp at q g =
+        rw (
+          finishes o e (fields-unused mode w fine) (p .operand) next (p .reached) 0 (store.Word at next)
+              (rw (sp-hot b rs (h .pc) (h .v) (h .c) (h .s) (h .z), ← q, g)),
+          p .address,
+          sp-hot b rs a (h .v) (h .c) (h .s) (h .z),
+          ← q,
+        )
+        (ap (λ (y : State). did y (storeWord m at next) cost) (sp-with-hot b rs a (h .v) (h .c) (h .s) (h .z) size sp))
+
+  module _ {byte mode cost a next : ℕ} (low : rd < 14) (e : upper w ≡ byte) (fine : RxFine mode w) (o : Opens byte ST mode register data-access.Destination flow.Next cost) where
+    pub store-does :
+        (width : Width) → Addressed st m w mode a next width → (at : ℕ) → accessOf width (translates b) (b .tlb) Write a ≡ granted at (b .tlb)
+        → Does b rs h m w rs next (h .v) (h .c) (h .s) (h .z) (writeAt width m at held) cost
+    unfolding needOf valueStored transferOf endOf commit afterOperation bodyOf eventOf stored
+    store-does Byte p at g =
+        rw (finishes o e (fields-register mode w low fine) (p .operand) next (p .reached) 0 (store.Byte at held) (rw (p .stores, p .address, g, reg rd low)))
+    store-does Word p at g =
+        rw (finishes o e (fields-register mode w low fine) (p .operand) next (p .reached) 0 (store.Word at held) (rw (p .stores, p .address, g, reg rd low)))
+
+  -- ---- single bytes
+
+  single-fine : RxFine 8 w
+  unfolding usesRx
+  single-fine = and-false (eqb (rxField w) 15)
+
+  module _ (next : ℕ) (n : next ≡ plus (h .pc) 2) where
+    alone : Reached st m w 8 operand.Nothing next
+    unfolding hasSecond operandOf
+    alone r = one-word st m r 8 w refl ∙ rw n
+
+    pub no-does : upper w ≡ NO * 8 → Does b rs h m w rs next (h .v) (h .c) (h .s) (h .z) m 3
+    unfolding opcodeOf inRows inModes modeBits rows row eight single addStates divStates shiftStates costOf statesAt needOf transferOf endOf commit afterOperation bodyOf eventOf stored
+    no-does e =
+        rw (finishes {code = NO} {cost = 3} {access = data-access.None} {f = flow.Next} (opens _ refl refl) e (fields-unused 8 w single-fine)
+        operand.Nothing next alone 0 store.Nothing refl)
+
+    pub push-does :
+        upper w ≡ PUSH * 8 → rd < 14 → (sp at : ℕ) → sp ≡ minus (getD rs 13 0) 2 → Grants b Write sp at
+        → Does b rs h m w (set rs 13 sp) next (h .v) (h .c) (h .s) (h .z) (storeWord m at held) 5
+    unfolding opcodeOf inRows inModes modeBits rows row eight single addStates divStates shiftStates costOf statesAt needOf valueStored transferOf endOf commit afterOperation bodyOf eventOf stored
+    push-does e low sp at q g =
+        rw (
+          finishes {code = PUSH} {cost = 5} {access = data-access.Push} {f = flow.Next} (opens _ refl refl) e (fields-register 8 w low single-fine)
+              operand.Nothing next alone 0 (store.Word at held) (rw (sp-hot b rs (h .pc) (h .v) (h .c) (h .s) (h .z), ← q, g, reg rd low)),
+          sp-hot b rs next (h .v)
+              (h .c) (h .s) (h .z),
+          ← q,
+        )
+        (ap (λ (y : State). did y (storeWord m at held) 5) (sp-with-hot b rs next (h .v) (h .c) (h .s) (h .z) size sp))
+
+    pub pop-does :
+        upper w ≡ PUSH * 8 + 4 → rd < 14 → (at sp x : ℕ) → Grants b Read (getD rs 13 0) at → x ≡ wordAt m at → sp ≡ plus (getD rs 13 0) 2
+        → Does b rs h m w (set (set rs 13 sp) rd x) next (h .v) (h .c) (h .s) (h .z) m 6
+    unfolding opcodeOf inRows inModes modeBits rows row eight single addStates divStates shiftStates costOf statesAt needOf valueStored transferOf endOf commit afterOperation bodyOf eventOf stored
+    pop-does e low at sp x g q k =
+        rw (
+          finishes {code = POP} {cost = 6} {access = data-access.Pop} {f = flow.Next} (opens _ refl refl) e (fields-register 8 w low single-fine)
+              operand.Nothing next alone x store.Nothing (rw (sp-hot b rs (h .pc) (h .v) (h .c) (h .s) (h .z), g, q)),
+          sp-hot b rs next (h .v) (h .c) (h .s) (h .z),
+          ← k,
+        )
+        (ap (λ (y : State). did y m 6) (ap (λ (y : State). withReg y rd x) (sp-with-hot b rs next (h .v) (h .c) (h .s) (h .z) size sp) ∙ with-hot b
+        (set rs 13 sp) next (h .v) (h .c) (h .s) (h .z) (length-set rs 13 sp ∙ size) rd x low))
+
+    pub ret-does :
+        upper w ≡ RET * 8 → (at sp x : ℕ) → Grants b Read (getD rs 13 0) at → x ≡ wordAt m at → sp ≡ plus (getD rs 13 0) 2
+        → Does b rs h m w (set rs 13 sp) x (h .v) (h .c) (h .s) (h .z) m 6
+    unfolding opcodeOf inRows inModes modeBits rows row eight single addStates divStates shiftStates costOf statesAt needOf valueStored transferOf endOf commit afterOperation bodyOf eventOf stored
+    ret-does e at sp x g q k =
+        rw (
+          finishes {code = RET} {cost = 6} {access = data-access.Pop} {f = flow.Return} (opens _ refl refl) e (fields-unused 8 w single-fine) operand.Nothing
+              next alone x store.Nothing (rw (sp-hot b rs (h .pc) (h .v) (h .c) (h .s) (h .z), g, q)),
+          sp-hot b rs x (h .v) (h .c) (h .s) (h .z),
+          ← k,
+        )
+        (ap (λ (y : State). did y m 6) (sp-with-hot b rs x (h .v) (h .c) (h .s) (h .z) size sp))
+
+pub rx-unused : (mode w : ℕ) → usesRx mode ≡ false → RxFine mode w
+rx-unused mode w e = rw e (and-false (eqb (rxField w) 15))
+
+pub rx-low : (mode w : ℕ) → rxField w < 14 → RxFine mode w
+rx-low mode w l = rw (ne-eqb (rxField w) 15 (λ q. omega arith))

@@ -1,0 +1,137 @@
+// The instructions: PC, the arithmetic flags, the registers and memory after one, or nothing changed where it is not carried out here.
+ghost use mathlib.Core.Path.{_≡_};
+ghost use Prim.Native.Nat.{_<_, _%_};
+ghost use lib.ListN.{length, set};
+ghost use Rattle.status.specs.Flag.{holds};
+ghost use Rattle.word.specs.Jump.{conditionOf};
+ghost use Rattle.hot.specs.Rows.{addCost, loadCost};
+ghost use Rattle.hot.specs.Sources.{modeOf};
+ghost use Rattle.hot.specs.Tells.{Divided, Operates};
+use crate::Hot;
+use crate::source::Source;
+use decode::code;
+use pages::NONE;
+use word::Alu;
+use word::Test;
+
+impl Hot {
+    // To another address, in these states.
+    pub fn to(self, pc: u16, cost: u32) -> Hot
+        ensures { λ r. ⌜ r ≡ record { pc = pc; v = self .v; c = self .c; s = self .s; z = self .z; cost = cost } ⌝ }
+    {
+        Hot {
+            pc,
+            v: self.v,
+            c: self.c,
+            s: self.s,
+            z: self.z,
+            cost,
+        }
+    }
+
+    // Not carried out.
+    pub fn stop(self) -> Hot
+        ensures { λ r. ⌜ r .cost ≡ 0 ⌝ }
+    {
+        self.to(self.pc, 0)
+    }
+
+    // A jump is taken.
+    pub fn taken(self, n: u8) -> bool
+        ensures { λ r. ⌜ r ≡ holds (conditionOf n (self .v) (self .c) (self .s) (self .z)) ⌝ }
+    {
+        let test = word::condition(n, self.v, self.c, self.s, self.z);
+        match test {
+            Test::Holds => true,
+            Test::Fails => false,
+            Test::Undefined => false,
+        }
+    }
+
+    // LD and ADD to SHRL with their operand.
+    pub fn operate(self, regs: &mut [u16; 16], w: u16, x: Source) -> Hot
+        requires { ⌜ (length (now regs) ≡ 16) × (x .cost ≡ addCost (modeOf w)) ⌝ }
+        ensures { λ r. ⌜ Operates (now (regs .entry)) self w x (now (regs .exit)) r ⌝ }
+    {
+        let d = (w / 16 % 16) as usize;
+        if 14 <= d {
+            return self.stop();
+        }
+        if NONE <= x.value {
+            return self.stop();
+        }
+        let a = regs[d];
+        let b = x.value as u16;
+        let code = (w / 2048) as u8;
+        match code {
+            code::LD => self.load(regs, d, b, x.next, load_cost(w, x.cost)),
+            code::ADD => with(regs, d, word::add(a, b), x.next, x.cost),
+            code::SUB => with(regs, d, word::sub(a, b), x.next, x.cost),
+            code::CMP => flagged(word::sub(a, b), x.next, x.cost),
+            code::AND => with(regs, d, word::and(a, b), x.next, x.cost),
+            code::OR => with(regs, d, word::or(a, b), x.next, x.cost),
+            code::XOR => with(regs, d, word::xor(a, b), x.next, x.cost),
+            code::ADDS => with(regs, d, word::adds(a, b), x.next, x.cost + 1),
+            code::MUL => with(regs, d, word::mul(a, b), x.next, x.cost + 50),
+            code::DIV => self.divide(regs, d, b, word::div(a, b), x.next, x.cost + 66),
+            code::MOD => self.divide(regs, d, b, word::modulo(a, b), x.next, x.cost + 66),
+            code::SHLA => with(regs, d, word::shl(a, b), x.next, x.cost + 1 + x.value % 16),
+            code::SHLL => with(regs, d, word::shl(a, b), x.next, x.cost + 1 + x.value % 16),
+            code::SHRA => with(regs, d, word::shra(a, b), x.next, x.cost + 1 + x.value % 16),
+            code::SHRL => with(regs, d, word::shrl(a, b), x.next, x.cost + 1 + x.value % 16),
+            _ => self.stop(),
+        }
+    }
+
+    fn load(self, regs: &mut [u16; 16], d: usize, v: u16, pc: u16, cost: u32) -> Hot
+        requires { ⌜ (length (now regs) ≡ 16) × (d < 16) ⌝ }
+        ensures value { λ r. ⌜ r ≡ record { pc = pc; v = self .v; c = self .c; s = self .s; z = self .z; cost = cost } ⌝ }
+        ensures written { λ r. ⌜ now (regs .exit) ≡ set (now (regs .entry)) d v ⌝ }
+    {
+        regs[d] = v;
+        self.to(pc, cost)
+    }
+
+    // A quotient or a remainder, where the divisor is not 0.
+    fn divide(self, regs: &mut [u16; 16], d: usize, b: u16, r: Alu, pc: u16, cost: u32) -> Hot
+        requires { ⌜ (length (now regs) ≡ 16) × (d < 16) ⌝ }
+        ensures { λ r0. ⌜ Divided (now (regs .entry)) d b r pc cost (now (regs .exit)) r0 ⌝ }
+    {
+        if b == 0 {
+            return self.stop();
+        }
+        with(regs, d, r, pc, cost)
+    }
+}
+
+// The states of LD: one less than those of ADD with a register.
+fn load_cost(w: u16, cost: u32) -> u32
+    ensures { λ r. ⌜ (cost ≡ addCost (modeOf w) → r ≡ loadCost (modeOf w)) ⌝ }
+{
+    let mode = w / 256 % 8;
+    if mode == 4 { 4 } else { cost }
+}
+
+// The flags of a result.
+fn flagged(r: Alu, pc: u16, cost: u32) -> Hot
+    ensures { λ r0. ⌜ r0 ≡ record { pc = pc; v = r .v; c = r .c; s = r .s; z = r .z; cost = cost } ⌝ }
+{
+    Hot {
+        pc,
+        v: r.v,
+        c: r.c,
+        s: r.s,
+        z: r.z,
+        cost,
+    }
+}
+
+// A result to a register.
+fn with(regs: &mut [u16; 16], d: usize, r: Alu, pc: u16, cost: u32) -> Hot
+    requires { ⌜ (length (now regs) ≡ 16) × (d < 16) ⌝ }
+    ensures value { λ r0. ⌜ r0 ≡ record { pc = pc; v = r .v; c = r .c; s = r .s; z = r .z; cost = cost } ⌝ }
+    ensures written { λ r0. ⌜ now (regs .exit) ≡ set (now (regs .entry)) d (r .value) ⌝ }
+{
+    regs[d] = r.value;
+    flagged(r, pc, cost)
+}

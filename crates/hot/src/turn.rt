@@ -1,0 +1,239 @@
+// The instructions that move: stores, jumps, the stack; and the instruction of a first word.
+ghost use mathlib.Core.Path.{_≡_};
+ghost use Prim.Native.Nat.{_%_, _*_, _+_, _/_, _<_};
+ghost use lib.ListN.{length};
+ghost use Rattle.decode.specs.Code.{CALL, JUMP, NO, PUSH, RET, ST};
+ghost use Rattle.word.specs.Word.{upper};
+ghost use Rattle.hot.specs.Moves.{Added, Stored};
+ghost use Rattle.hot.specs.Tells.{Tells};
+use crate::Hot;
+use crate::register::register;
+use crate::register::wide;
+use crate::source::frame_place;
+use crate::source::indexed_place;
+use crate::source::source_of;
+use decode::code;
+use mmu::Right;
+use pages::NONE;
+use pages::NOWHERE;
+use pages::Width;
+use pages::fetch;
+use pages::place;
+use pages::read;
+use pages::word_at;
+use pages::write;
+use word::minus;
+use word::plus;
+
+// What is added to the second word of a jump or of CALL: nothing, or a register.
+fn added(regs: &[u16; 16], mode: u16, w: u16) -> u32
+    ensures { λ r. ⌜ (r < 65536 → Added (now (regs .entry)) mode w r) ⌝ }
+{
+    if mode == 0 {
+        return 0;
+    }
+    register(regs, w)
+}
+
+impl Hot {
+    // A jump, PC being even.
+    fn jump(self, regs: &[u16; 16], map: &[u16; 256], mem: &[u8], w: u16) -> Hot
+        requires { ⌜ (length (now regs) ≡ 16) × (length (now mem) ≡ 65536) × (self .pc % 2 ≡ 0) × (w / 2048 ≡ JUMP) ⌝ }
+        ensures { λ r. ⌜ Tells (now (map .entry)) (now (regs .entry)) (now (mem .entry)) self w (now (regs .entry)) (now (mem .entry)) r ⌝ }
+    {
+        let mode = w / 256 % 8;
+        if 2 <= mode {
+            return self.stop();
+        }
+        let n = w / 16 % 16;
+        if n == 13 {
+            return self.stop();
+        }
+        let add = added(regs, mode, w);
+        if NONE <= add {
+            return self.stop();
+        }
+        let i = place(map, Right::Execute, plus(self.pc, 2));
+        if NOWHERE <= i {
+            return self.stop();
+        }
+        if self.taken(n as u8) {
+            return self.to(((word_at(mem, i) + add) % 65536) as u16, 5);
+        }
+        self.to(plus(self.pc, 4), 4)
+    }
+
+    // CALL, PC being even.
+    fn call(self, regs: &mut [u16; 16], map: &[u16; 256], mem: &mut [u8], w: u16) -> Hot
+        requires { ⌜ (length (now regs) ≡ 16) × (length (now mem) ≡ 65536) × (self .pc % 2 ≡ 0) × (w / 2048 ≡ CALL) ⌝ }
+        ensures { λ r. ⌜ Tells (now (map .entry)) (now (regs .entry)) (now (mem .entry)) self w (now (regs .exit)) (now (mem .exit)) r ⌝ }
+    {
+        let mode = w / 256 % 8;
+        if 2 <= mode {
+            return self.stop();
+        }
+        let add = added(regs, mode, w);
+        if NONE <= add {
+            return self.stop();
+        }
+        let d = fetch(map, mem, plus(self.pc, 2));
+        if NONE <= d {
+            return self.stop();
+        }
+        let sp = minus(regs[13], 2);
+        if write(map, mem, Width::Word, sp as u32, plus(self.pc, 4)) {
+            regs[13] = sp;
+            return self.to(((d + add) % 65536) as u16, 6);
+        }
+        self.stop()
+    }
+
+    fn push(self, regs: &mut [u16; 16], map: &[u16; 256], mem: &mut [u8], w: u16) -> Hot
+        requires { ⌜ (length (now regs) ≡ 16) × (length (now mem) ≡ 65536) × (upper w ≡ PUSH * 8) ⌝ }
+        ensures { λ r. ⌜ Tells (now (map .entry)) (now (regs .entry)) (now (mem .entry)) self w (now (regs .exit)) (now (mem .exit)) r ⌝ }
+    {
+        let v = register(regs, w / 16);
+        if NONE <= v {
+            return self.stop();
+        }
+        let sp = minus(regs[13], 2);
+        if write(map, mem, Width::Word, sp as u32, v as u16) {
+            regs[13] = sp;
+            return self.to(plus(self.pc, 2), 5);
+        }
+        self.stop()
+    }
+
+    fn pop(self, regs: &mut [u16; 16], map: &[u16; 256], mem: &[u8], w: u16) -> Hot
+        requires { ⌜ (length (now regs) ≡ 16) × (length (now mem) ≡ 65536) × (upper w ≡ PUSH * 8 + 4) ⌝ }
+        ensures { λ r. ⌜ Tells (now (map .entry)) (now (regs .entry)) (now (mem .entry)) self w (now (regs .exit)) (now (mem .entry)) r ⌝ }
+    {
+        let d = (w / 16 % 16) as usize;
+        if 14 <= d {
+            return self.stop();
+        }
+        let sp = regs[13];
+        let x = read(map, mem, Width::Word, wide(sp));
+        if NONE <= x {
+            return self.stop();
+        }
+        regs[13] = plus(sp, 2);
+        regs[d] = x as u16;
+        self.to(plus(self.pc, 2), 6)
+    }
+
+    fn ret(self, regs: &mut [u16; 16], map: &[u16; 256], mem: &[u8], w: u16) -> Hot
+        requires { ⌜ (length (now regs) ≡ 16) × (length (now mem) ≡ 65536) × (w / 2048 ≡ RET) ⌝ }
+        ensures { λ r. ⌜ Tells (now (map .entry)) (now (regs .entry)) (now (mem .entry)) self w (now (regs .exit)) (now (mem .entry)) r ⌝ }
+    {
+        let mode = w / 256 % 8;
+        if mode != 0 {
+            return self.stop();
+        }
+        let sp = regs[13];
+        let x = read(map, mem, Width::Word, wide(sp));
+        if NONE <= x {
+            return self.stop();
+        }
+        regs[13] = plus(sp, 2);
+        self.to(x as u16, 6)
+    }
+
+    // Rd stored at an address.
+    fn store_at(
+        self,
+        regs: &[u16; 16],
+        map: &[u16; 256],
+        mem: &mut [u8],
+        w: u16,
+        width: Width,
+        a: u32,
+        next: u16,
+        cost: u32,
+    ) -> Hot
+        requires { ⌜ length (now mem) ≡ 65536 ⌝ }
+        ensures { λ r. ⌜ Stored (now (map .entry)) (now (regs .entry)) (now (mem .entry)) self w width a next cost (now (mem .exit)) r ⌝ }
+    {
+        let v = register(regs, w / 16);
+        if NONE <= v {
+            return self.stop();
+        }
+        if write(map, mem, width, a, v as u16) {
+            return self.to(next, cost);
+        }
+        self.stop()
+    }
+
+    // ST, PC being even.
+    fn store(self, regs: &[u16; 16], map: &[u16; 256], mem: &mut [u8], w: u16) -> Hot
+        requires { ⌜ (length (now regs) ≡ 16) × (length (now mem) ≡ 65536) × (self .pc % 2 ≡ 0) × (w / 2048 ≡ ST) ⌝ }
+        ensures { λ r. ⌜ Tells (now (map .entry)) (now (regs .entry)) (now (mem .entry)) self w (now (regs .entry)) (now (mem .exit)) r ⌝ }
+    {
+        let pc = self.pc;
+        let mode = w / 256 % 8;
+        match mode {
+            0 => {
+                let a = fetch(map, mem, plus(pc, 2));
+                self.store_at(regs, map, mem, w, Width::Word, a, plus(pc, 4), 6)
+            }
+            1 => {
+                let a = indexed_place(regs, fetch(map, mem, plus(pc, 2)), w);
+                self.store_at(regs, map, mem, w, Width::Word, a, plus(pc, 4), 6)
+            }
+            3 => {
+                let a = wide(frame_place(regs, w));
+                self.store_at(regs, map, mem, w, Width::Word, a, plus(pc, 2), 6)
+            }
+            6 => {
+                let a = register(regs, w);
+                self.store_at(regs, map, mem, w, Width::Word, a, plus(pc, 2), 5)
+            }
+            7 => {
+                let a = register(regs, w);
+                self.store_at(regs, map, mem, w, Width::Byte, a, plus(pc, 2), 5)
+            }
+            _ => self.stop(),
+        }
+    }
+
+    // NO.
+    fn no(self, regs: &[u16; 16], map: &[u16; 256], mem: &[u8], w: u16) -> Hot
+        requires { ⌜ (length (now regs) ≡ 16) × (w / 2048 ≡ NO) ⌝ }
+        ensures { λ r. ⌜ Tells (now (map .entry)) (now (regs .entry)) (now (mem .entry)) self w (now (regs .entry)) (now (mem .entry)) r ⌝ }
+    {
+        if 256 <= w {
+            return self.stop();
+        }
+        self.to(plus(self.pc, 2), 3)
+    }
+
+    // PUSH and POP.
+    fn stack(self, regs: &mut [u16; 16], map: &[u16; 256], mem: &mut [u8], w: u16) -> Hot
+        requires { ⌜ (length (now regs) ≡ 16) × (length (now mem) ≡ 65536) × (w / 2048 ≡ PUSH) ⌝ }
+        ensures { λ r. ⌜ Tells (now (map .entry)) (now (regs .entry)) (now (mem .entry)) self w (now (regs .exit)) (now (mem .exit)) r ⌝ }
+    {
+        let mode = w / 256 % 8;
+        match mode {
+            0 => self.push(regs, map, mem, w),
+            4 => self.pop(regs, map, mem, w),
+            _ => self.stop(),
+        }
+    }
+
+    // The instruction of a first word, PC being even.
+    pub fn turn(self, regs: &mut [u16; 16], map: &[u16; 256], mem: &mut [u8], w: u16) -> Hot
+        requires { ⌜ (length (now regs) ≡ 16) × (length (now mem) ≡ 65536) × (self .pc % 2 ≡ 0) ⌝ }
+        ensures { λ r. ⌜ Tells (now (map .entry)) (now (regs .entry)) (now (mem .entry)) self w (now (regs .exit)) (now (mem .exit)) r ⌝ }
+    {
+        let code = (w / 2048) as u8;
+        match code {
+            code::NO => self.no(regs, map, mem, w),
+            code::ST => self.store(regs, map, mem, w),
+            code::JUMP => self.jump(regs, map, mem, w),
+            code::CALL => self.call(regs, map, mem, w),
+            code::PUSH => self.stack(regs, map, mem, w),
+            code::RET => self.ret(regs, map, mem, w),
+            _ => self.operate(regs, w, source_of(regs, map, mem, self.pc, w)),
+        }
+    }
+}

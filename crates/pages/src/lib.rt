@@ -1,0 +1,22 @@
+// The map of a machine's pages, and the accesses by it: a map gives an access only where that is granted and leaves the TLB as it is.
+mod access;
+mod map;
+
+pub use access::fetch;
+pub use access::read;
+pub use access::word_at;
+pub use access::write;
+pub use map::page_map;
+pub use map::place;
+
+// What is accessed.
+pub enum Width {
+    Byte,
+    Word,
+}
+
+// No word: beyond every word.
+pub const NONE: u32 = 65536;
+
+// No place: beyond every place.
+pub const NOWHERE: usize = 65536;
