@@ -14,7 +14,7 @@ use crate::Acted;
 use crate::Command;
 use crate::Parsed;
 use crate::parser::parse;
-use decode::ENTRIES;
+use decode::Table;
 use machine::Ports;
 use machine::State;
 use report::REPORT;
@@ -86,7 +86,7 @@ fn run_reported(
     allowance: u16,
     report: &mut [u8],
     filled: usize,
-    table: &[u16; ENTRIES],
+    table: &Table,
 ) -> State
     requires { ⌜ (length (now memory) ≡ 65536) × (filled + reportSize ≤ length (now report)) × (now table ≡ tableOf) ⌝ }
     ensures state { λ r. ⌜ r ≡ (runOf allowance state (now (memory .entry))) .state ⌝ }
@@ -115,7 +115,7 @@ fn act(
     memory: &mut [u8],
     report: &mut [u8],
     filled: usize,
-    table: &[u16; ENTRIES],
+    table: &Table,
 ) -> Acted
     requires { ⌜ (length (now memory) ≡ 65536) × (filled + reportSize * isRun command ≤ length (now report)) × (now table ≡ tableOf) ⌝ }
     ensures answer { λ r. ⌜ r ≡ record { state = (def.effectOf command state (now (memory .entry))) .state; filled = filled + reportSize * isRun command } ⌝ }

@@ -7,7 +7,7 @@ mod table;
 pub use opcode::first_word;
 pub use operands::decoded;
 pub use operands::operand_from;
-pub use table::ENTRIES;
+pub use table::Table;
 pub use table::entries;
 
 // One of eight operand kinds with its own data, or none.

@@ -8,8 +8,8 @@ use crate::First;
 use crate::Flow;
 use crate::Privilege;
 use crate::Shape;
-use crate::table::ENTRIES;
 use crate::table::NUMBERS;
+use crate::table::Table;
 
 fn privilege_from(n: u16) -> Privilege
     ensures { λ r. ⌜ r ≡ privilegeFrom n ⌝ }
@@ -58,7 +58,7 @@ fn uses_rx(mode: u16) -> bool
 }
 
 // The first word of an instruction.
-pub fn first_word(table: &[u16; ENTRIES], word: u16) -> First
+pub fn first_word(table: &Table, word: u16) -> First
     requires { ⌜ now table ≡ tableOf ⌝ }
     ensures { λ r. ⌜ r ≡ def.firstOf word ⌝ }
 {

@@ -3,7 +3,7 @@ ghost use mathlib.Core.Path.{_≡_};
 ghost use Rattle.decode.specs.Entry.{tableOf};
 
 // The entries: one for each first byte, one for each instruction's number.
-pub const ENTRIES: usize = 288;
+pub type Table = [u16; 288];
 
 // Where those by number begin.
 pub const NUMBERS: usize = 256;
@@ -11,7 +11,7 @@ pub const NUMBERS: usize = 256;
 // An entry for each first byte, 0 for a byte that is no instruction. From the lowest bit up: the instruction's number (5 bits), the mode (4),
 // the states (7). Behind them an entry for each number, 0 for a number that is none's: what Rd is (2), the privilege (2), the data access (3),
 // the flow (3).
-const TABLE: [u16; ENTRIES] = [
+const TABLE: Table = [
     0x0700,
     0,
     0,
@@ -302,7 +302,7 @@ const TABLE: [u16; ENTRIES] = [
     0x0008,
 ];
 
-pub fn entries() -> [u16; ENTRIES]
+pub fn entries() -> Table
     ensures { λ r. ⌜ r ≡ tableOf ⌝ }
 {
     TABLE

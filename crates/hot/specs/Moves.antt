@@ -11,7 +11,7 @@ use Rattle.decode.specs.Decode.{rdField, rxField, usesRx}
 use Rattle.decode.specs.Instructions.{addStates, condition, costOf, divStates, eight, inModes, inRows, modeBits, opcodeOf, register, row, rows, shiftStates, single, statesAt, unused}
 use Rattle.decode.specs.declared.DataAccess.the-variants as data-access
 use Rattle.decode.specs.declared.Flow.the-variants as flow
-use Rattle.machine.specs.Plan.{holds}
+use Rattle.status.specs.Flag.{holds}
 use Rattle.machine.specs.declared.State.{State}
 use Rattle.mmu.specs.declared.Right.the-variants.{Execute, Read}
 use Rattle.pages.specs.Accesses.{Reads, Wrote}

@@ -28,11 +28,11 @@ use Rattle.status.specs.Flag.{holds}
 use Rattle.machine.specs.Register.{regOf, spOf, withReg}
 use Rattle.machine.specs.State.{withPc}
 use Rattle.machine.specs.Step.{commit}
-use Rattle.machine.specs.Transfer.{transferOf}
-use Rattle.machine.specs.declared.Operation.{Operation}
-use Rattle.machine.specs.declared.Plan.the-variants.{Perform}
+use Rattle.plan.specs.Transfer.{transferOf}
+use Rattle.plan.specs.declared.Operation.{Operation}
+use Rattle.plan.specs.declared.Plan.the-variants.{Perform}
 use Rattle.machine.specs.declared.State.{State}
-use Rattle.machine.specs.declared.Transfer.the-variants.{Done}
+use Rattle.plan.specs.declared.Transfer.the-variants.{Done}
 use Rattle.mmu.specs.Access.{granted}
 use Rattle.mmu.specs.Memory.{storeWord, stored, wordAt}
 use Rattle.mmu.specs.declared.Right.the-variants.{Read, Write}

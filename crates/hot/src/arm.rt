@@ -2,8 +2,7 @@
 ghost use mathlib.Core.Path.{_≡_};
 ghost use Prim.Native.Nat.{_<_, _%_};
 ghost use lib.ListN.{length, set};
-ghost use Rattle.status.specs.Flag.{holds};
-ghost use Rattle.word.specs.Jump.{conditionOf};
+ghost use Rattle.status.specs.Flag.{takenOn};
 ghost use Rattle.hot.specs.Rows.{addCost, loadCost};
 ghost use Rattle.hot.specs.Sources.{modeOf};
 ghost use Rattle.hot.specs.Tells.{Divided, Operates};
@@ -12,7 +11,6 @@ use crate::source::Source;
 use decode::code;
 use pages::NONE;
 use word::Alu;
-use word::Test;
 
 impl Hot {
     // To another address, in these states.
@@ -38,14 +36,9 @@ impl Hot {
 
     // A jump is taken.
     pub fn taken(self, n: u8) -> bool
-        ensures { λ r. ⌜ r ≡ holds (conditionOf n (self .v) (self .c) (self .s) (self .z)) ⌝ }
+        ensures { λ r. ⌜ r ≡ takenOn n (self .v) (self .c) (self .s) (self .z) ⌝ }
     {
-        let test = word::condition(n, self.v, self.c, self.s, self.z);
-        match test {
-            Test::Holds => true,
-            Test::Fails => false,
-            Test::Undefined => false,
-        }
+        status::taken(n, self.v, self.c, self.s, self.z)
     }
 
     // LD and ADD to SHRL with their operand.

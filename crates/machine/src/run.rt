@@ -9,7 +9,7 @@ use crate::Ending;
 use crate::Event;
 use crate::Finished;
 use crate::State;
-use decode::ENTRIES;
+use decode::Table;
 
 // The states of a step.
 pub fn states_of(event: Event) -> u16
@@ -37,7 +37,7 @@ impl State {
     }
 
     // A run of at most `allowance` steps, with the decoding table lent.
-    pub fn run(self, mem: &mut [u8], allowance: u16, table: &[u16; ENTRIES]) -> Finished
+    pub fn run(self, mem: &mut [u8], allowance: u16, table: &Table) -> Finished
         requires { ⌜ (length (now mem) ≡ 65536) × (now table ≡ tableOf) ⌝ }
         ensures answer { λ r. ⌜ r ≡ def.finished (def.runOf allowance self (now (mem .entry))) ⌝ }
         ensures memory { λ r. ⌜ now (mem .exit) ≡ (def.runOf allowance self (now (mem .entry))) .memory ⌝ }

@@ -6,10 +6,10 @@ ghost use Rattle.machine.specs.Plan as def;
 ghost use Rattle.machine.specs.State.{withTlb};
 use crate::Planned;
 use crate::State;
-use decode::ENTRIES;
 use decode::First;
 use decode::Instruction;
 use decode::Shape;
+use decode::Table;
 use mmu::Access;
 use mmu::Accessed;
 use mmu::word_at;
@@ -164,7 +164,7 @@ impl State {
     }
 
     // The fetch, and on.
-    fn plan_fetch(self, mem: &[u8], table: &[u16; ENTRIES]) -> Planned
+    fn plan_fetch(self, mem: &[u8], table: &Table) -> Planned
         requires { ⌜ (length (now mem) ≡ 65536) × (now table ≡ tableOf) ⌝ }
         ensures { λ r. ⌜ r ≡ def.planFetch self (now (mem .entry)) ⌝ }
     {
@@ -185,7 +185,7 @@ impl State {
     }
 
     // The plan of a step, and the state with the marks of its accesses.
-    pub fn plan(self, mem: &[u8], table: &[u16; ENTRIES]) -> Planned
+    pub fn plan(self, mem: &[u8], table: &Table) -> Planned
         requires { ⌜ (length (now mem) ≡ 65536) × (now table ≡ tableOf) ⌝ }
         ensures { λ r. ⌜ r ≡ def.planOf self (now (mem .entry)) ⌝ }
     {

@@ -6,7 +6,7 @@ ghost use Rattle.machine.specs.Step as def;
 use crate::State;
 use crate::Stepped;
 use crate::execution::event_of;
-use decode::ENTRIES;
+use decode::Table;
 use mmu::make_store;
 use plan::Plan;
 use status::fault_number;
@@ -49,7 +49,7 @@ impl State {
     }
 
     // One step of a running machine, with the decoding table lent.
-    pub fn step(self, mem: &mut [u8], table: &[u16; ENTRIES]) -> Stepped
+    pub fn step(self, mem: &mut [u8], table: &Table) -> Stepped
         requires { ⌜ (length (now mem) ≡ 65536) × (now table ≡ tableOf) ⌝ }
         ensures answer { λ r. ⌜ r ≡ def.answer (def.stepOf self (now (mem .entry))) ⌝ }
         ensures memory { λ r. ⌜ now (mem .exit) ≡ (def.stepOf self (now (mem .entry))) .memory ⌝ }

@@ -4,12 +4,15 @@ ghost use Prim.Native.Nat.{_*_, _≤_};
 ghost use lib.ListN.{length};
 ghost use Rattle.runner.specs.Goes.{Goes, Ready};
 ghost use Rattle.hot.specs.Hot.{hot, hotState};
+ghost use Rattle.machine.specs.Plan.{translates};
+ghost use Rattle.pages.specs.Maps.{Mapped};
 use crate::Part;
 use crate::quick::quick;
 use hot::Hot;
 use machine::Condition;
 use machine::State;
 use pages::page_map;
+use status::Flags;
 
 // The registers by their numbers, SP among them.
 fn spread(state: State) -> [u16; 16]
@@ -72,9 +75,9 @@ fn gather(mut base: State, rs: [u16; 16], h: Hot) -> State
     base.set_sp(rs[13])
 }
 
-// Plain instructions of a running machine with no interrupt due.
-fn stretch(state: State, mem: &mut [u8], allowance: u16) -> Part
-    requires { ⌜ (length (now mem) ≡ 65536) × Ready state ⌝ }
+// Plain instructions of a running machine with no interrupt due, by the map of its pages.
+fn stretch(state: State, map: &[u16; 256], mem: &mut [u8], allowance: u16) -> Part
+    requires { ⌜ (length (now mem) ≡ 65536) × Ready state × Mapped (translates state) (state .tlb) (now map) ⌝ }
     ensures goes { λ r. ⌜ Goes state (now (mem .entry)) (r .steps) (r .states) (r .state) (now (mem .exit)) ⌝ }
     ensures bounds { λ r. ⌜ (r .steps ≤ allowance) × (r .states ≤ 65535 * r .steps) ⌝ }
 {
@@ -88,9 +91,7 @@ fn stretch(state: State, mem: &mut [u8], allowance: u16) -> Part
         z: f.z,
         cost: 0,
     };
-    let tlb = state.tlb;
-    let map = page_map(state.translates(), tlb);
-    let q = quick(first, &mut regs, &map, mem, allowance);
+    let q = quick(first, &mut regs, map, mem, allowance);
     let last = q.hot;
     Part {
         state: gather(state, regs, last),
@@ -133,5 +134,12 @@ pub fn ahead(state: State, mem: &mut [u8], allowance: u16) -> Part
             states: 0,
         };
     }
-    stretch(state, mem, allowance)
+    // Each mode calls it by itself, so that the compiler leaves the loop a function of its own.
+    let tlb = state.tlb;
+    if state.translates() {
+        let map = page_map(true, tlb);
+        return stretch(state, &map, mem, allowance);
+    }
+    let map = page_map(false, tlb);
+    stretch(state, &map, mem, allowance)
 }

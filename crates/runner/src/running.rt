@@ -5,16 +5,13 @@ ghost use lib.ListN.{length};
 ghost use Rattle.decode.specs.Entry.{tableOf};
 ghost use Rattle.machine.specs.Run as def;
 use crate::ahead::ahead;
-use decode::ENTRIES;
+use decode::Table;
 use machine::Condition;
 use machine::Ending;
 use machine::Event;
 use machine::Finished;
 use machine::State;
 use machine::states_of;
-
-// The decoding table, lent.
-type Table = [u32; 256];
 
 // A run of at most `allowance` steps, and the bounds of its counts.
 fn counted(start: State, mem: &mut [u8], allowance: u16, table: &Table) -> Finished
