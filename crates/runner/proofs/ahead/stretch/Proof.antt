@@ -7,12 +7,6 @@ use Rattle.runner.proofs.ahead.stretch.Tie as tie
 spread-requires : tie.Need-spread-requires
 spread-requires c κs = search needs
 
-translates-requires : tie.Need-translates-requires
-translates-requires c κs = search needs
-
-page-map-requires : tie.Need-page-map-requires
-page-map-requires c κs = search needs
-
 quick-requires : tie.Need-quick-requires
 quick-requires c κs = search needs
 
@@ -25,14 +19,12 @@ same-length c = search needs
 returns : tie.Need-returns
 returns c =
     let quick′ = c .before .before .before .before .quick in
-    let mapped = c .before .before .before .before .before .before .before .before in
-    let spread′ = mapped .before .before .before .before in
-    let led = quick′ .ensures .0 .goes (spread′ .before .before .args .state) (spread′ .before .before .pre .1) (rw (mapped .before .translates .ensures) at (mapped .page-map .ensures)) in (
+    let spread′ = c .before .before .before .before .before .before .before .before in
+    let start = spread′ .before .before in
+    let led = quick′ .ensures .0 .goes (start .args .state) (start .pre .1) (start .pre .2) in (
       rw (c .gather .ensures) (rw (spread′ .spread .ensures) at led),
       (quick′ .ensures .1 .0, quick′ .ensures .1 .1),
     )
 
 pub stretch-spec : {M : Type 1} → statement M
-stretch-spec =
-    tie.close
-    (tie.spec spread-requires translates-requires page-map-requires quick-requires gather-requires same-length returns)
+stretch-spec = tie.close (tie.spec spread-requires quick-requires gather-requires same-length returns)
