@@ -29,7 +29,7 @@ fn listed(card: &[u8], text: &mut [u8]) -> usize
 fn main() {
     let mut card = [0u8; 4097];
     let input = input::read_input(&mut card);
-    if !input.complete {
+    if !input.complete() {
         return;
     }
     let count = input.count;

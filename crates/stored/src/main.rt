@@ -71,7 +71,7 @@ fn run_all(cases: &[u8]) {
 fn main() {
     let mut cases = [0u8; 65536];
     let input = input::read_input(&mut cases);
-    if !input.complete {
+    if !input.complete() {
         return;
     }
     let count = input.count;
