@@ -46,7 +46,7 @@ sets-behind :
 sets-behind before bytes at h =
     ap (drop (at + length bytes)) (sets-eq bytes before at h)
     ∙ drop-at (take at before ++ bytes) (drop (at + length bytes) before) (at + length bytes)
-      (length-append (take at before) bytes ∙ ap (λ (n : ℕ). n + length bytes) (length-take-le at before (omega arith)))
+    (length-append (take at before) bytes ∙ ap (λ (n : ℕ). n + length bytes) (length-take-le at before (omega arith)))
 
 module _ {before mid after : List ℕ} {at : ℕ} (f : Front before mid at) where
   put : (bytes : List ℕ) (n : ℕ) → length bytes ≡ n → at + n ≤ length mid → after ≡ sets mid at bytes → Front before after (at + n)
@@ -56,13 +56,13 @@ module _ {before mid after : List ℕ} {at : ℕ} (f : Front before mid at) wher
         within = omega (arith, f .long);
         long = ap length are ∙ length-sets mid at bytes ∙ f .long;
         behind =
-          ap (drop (at + n)) are
-          ∙ ap (λ (k : ℕ). drop (at + k) (sets mid at bytes)) (sym e)
-          ∙ sets-behind mid bytes at room′
-          ∙ ap (λ (k : ℕ). drop (at + k) mid) e
-          ∙ sym (drop-drop n at mid)
-          ∙ ap (drop n) (f .behind)
-          ∙ drop-drop n at before;
+            ap (drop (at + n)) are
+            ∙ ap (λ (k : ℕ). drop (at + k) (sets mid at bytes)) (sym e)
+            ∙ sets-behind mid bytes at room′
+            ∙ ap (λ (k : ℕ). drop (at + k) mid) e
+            ∙ sym (drop-drop n at mid)
+            ∙ ap (drop n) (f .behind)
+            ∙ drop-drop n at before;
       }
 
   pub read-on : (z : ℤ) → ReadAt mid at z after → leZ z (pos 0) ≡ false → Front before after (at + natAbs z) × (0 < natAbs z)
