@@ -65,8 +65,8 @@ module _ {before mid after : List ℕ} {at : ℕ} (f : Front before mid at) wher
             ∙ drop-drop n at before;
       }
 
-  pub read-on : (z : ℤ) → ReadAt mid at z after → leZ z (pos 0) ≡ false → Front before after (at + natAbs z) × (0 < natAbs z)
-  read-on (pos n) (bytes, e, room, are) h = (put bytes n e room are, leb-false n 0 h)
+  pub read-on : (z : ℤ) → ReadAt mid at z after → leZ z (pos 0) ≡ false → Front before after (at + natAbs z)
+  read-on (pos n) (bytes, e, room, are) h = put bytes n e room are
   read-on (negsuc k) r h = let no : _≡_ {A = ℕ} 0 1 = ap (λ (b : Bool). cond b 0 1) h in absurd (omega arith)
 
   pub read-ends : (z : ℤ) → ReadAt mid at z after → leZ z (pos 0) ≡ true → Front before after at × Ends z
@@ -75,8 +75,8 @@ module _ {before mid after : List ℕ} {at : ℕ} (f : Front before mid at) wher
       (subst (λ (k : ℕ). Front before after k) (omega arith) (put bytes n e room are), none)
   read-ends (negsuc k) (one, same) h = (rw same f, one)
 
-pub positive : (z : ℤ) → leZ z (pos 0) ≡ false → T (nonNeg z)
-positive (pos n) h = tt
+pub positive : (z : ℤ) → leZ z (pos 0) ≡ false → T (nonNeg z) × (0 < natAbs z)
+positive (pos n) h = (tt, leb-false n 0 h)
 positive (negsuc k) h = let no : _≡_ {A = ℕ} 0 1 = ap (λ (b : Bool). cond b 0 1) h in absurd (omega arith)
 
 pub at-least-zero : (z : ℤ) → leZ (pos 0) z ≡ nonNeg z

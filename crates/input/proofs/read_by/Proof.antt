@@ -94,10 +94,16 @@ returns c =
     let more : ℕ = c .before .before .before .before .before .count .result in
     let within : more ≤ length (take room (last ++ drop room chunk)) = c .before .before .before .before .before .count .ensures .0 .0 in
     let small : more ≤ length chunk = omega (arith, part-long chunk last room fits kept room fits) in
-    let z : ℤ = c .before .before .before .before .before .before .before .before .before .read .result in
+    let put = c .before .before in
+    let counted = put .before .before .before in
+    let read = counted .before .before .before .before in
+    let start = read .before .before .before .before .before in
+    let z : ℤ = read .read .result in
     let back = toZ-ofZ w64 z (search needs) in
-    let count : more ≡ clamped z (length (take room (last ++ drop room chunk))) = rw (sym back) (c .before .before .before .before .before .count .ensures .1) in
-    rw back (put-read chunk last room fits kept (c .before .before .before .before .before .before .before .before .before .before .before .before .before .before .args .buffer .now) (c .before .before .put-bytes .last .0) (c .before .before .before .before .before .before .before .before .before .before .before .before .before .before .args .at) more z (omega arith) (c .before .before .before .before .before .before .before .before .before .read .ensures) count (c .before .before .put-bytes .ensures))
+    let count : more ≡ clamped z (length (take room (last ++ drop room chunk))) = rw (sym back) (counted .count .ensures .1) in
+    let at = start .args .at in
+    let put-at = put-read chunk last room fits kept (start .args .buffer .now) (put .put-bytes .last .0) at more z in
+    rw back (put-at (omega arith) (read .read .ensures) count (put .put-bytes .ensures))
 
 pub read-by-spec : {M : Type 1} → statement M
 read-by-spec =
