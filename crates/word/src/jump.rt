@@ -1,6 +1,7 @@
 // Jump conditions.
 ghost use mathlib.Core.Bool.{Bool};
 ghost use mathlib.Core.Path.{_≡_};
+ghost use Prim.Native.Nat.{_<_, _≤_};
 ghost use Rattle.word.specs.Jump as def;
 
 // What a condition says of the flags.
@@ -18,7 +19,8 @@ fn answer(holds: bool) -> Test
 
 // Conditions 0 to 3: a flag.
 fn flag_test(code: u8, v: bool, c: bool, s: bool, z: bool) -> bool
-    ensures { λ r. ⌜ r ≡ def.flagTest code v c s z ⌝ }
+    requires { ⌜ code < 4 ⌝ }
+    ensures { λ r. ⌜ def.testOf r ≡ def.conditionOf code v c s z ⌝ }
 {
     match code {
         0 => z,
@@ -28,9 +30,10 @@ fn flag_test(code: u8, v: bool, c: bool, s: bool, z: bool) -> bool
     }
 }
 
-// Conditions 4 to 7: a comparison of signed numbers.
-fn signed_test(code: u8, v: bool, s: bool, z: bool) -> bool
-    ensures { λ r. ⌜ r ≡ def.signedTest code v s z ⌝ }
+// Conditions 4 to 7: a comparison of signed numbers. None of them asks for C.
+fn signed_test(code: u8, v: bool, c: bool, s: bool, z: bool) -> bool
+    requires { ⌜ (4 ≤ code) × (code < 8) ⌝ }
+    ensures { λ r. ⌜ def.testOf r ≡ def.conditionOf code v c s z ⌝ }
 {
     match code {
         4 => !(z | (s != v)),
@@ -50,7 +53,7 @@ pub fn condition(code: u8, v: bool, c: bool, s: bool, z: bool) -> Test
         14 => answer(z | c),
         15 => Test::Holds,
         0..=3 => answer(flag_test(code, v, c, s, z)),
-        4..=7 => answer(signed_test(code, v, s, z)),
+        4..=7 => answer(signed_test(code, v, c, s, z)),
         8..=11 => answer(!flag_test(code - 8, v, c, s, z)),
         _ => Test::Undefined,
     }

@@ -1,10 +1,10 @@
--- `word::jump::condition` meets its contract: conditions 12 to 15 by their numbers, the others by the laws of their ranges.
+-- `word::jump::condition` meets its contract: each number by its place in the list, 8 to 11 as the opposites of 0 to 3.
 -- Assumes nothing.
 use mathlib.Core.Path.{sym, _∙_}
 use native.Mathlib.Omega.{arith}
 use borrow.Author.Needs.{needs}
 use Rattle.word.specs.Jump.{conditionOf}
-use Rattle.word.specs.Laws.{condition-flag, condition-opposite, condition-past, condition-signed}
+use Rattle.word.specs.Laws.{condition-opposite, condition-past}
 use Rattle.word.proofs.jump.condition.Statement.{statement}
 use Rattle.word.proofs.jump.condition.Tie as tie
 
@@ -49,22 +49,16 @@ unfolding conditionOf
 returns-4 c = rw (c .match .keys4)
 
 returns-5 : tie.Need-returns-5
-returns-5 c =
-    c .answer3 .ensures
-    ∙ rw (c .before .flag-test .ensures)
-    (sym (condition-flag _ _ _ _ _ (c .before .before .if1 .taken)))
+returns-5 c = c .answer3 .ensures ∙ c .before .flag-test .ensures
 
 returns-6 : tie.Need-returns-6
-returns-6 c =
-    c .answer4 .ensures
-    ∙ rw (c .before .signed-test .ensures)
-    (sym (condition-signed _ _ _ _ _ (c .before .before .before .if1 .left) (c .before .before .if2 .taken)))
+returns-6 c = c .answer4 .ensures ∙ c .before .signed-test .ensures
 
 returns-7 : tie.Need-returns-7
 returns-7 c =
+    let test = c .before in
     c .answer5 .ensures
-    ∙ rw (c .before .flag-test2 .ensures)
-    (sym (condition-opposite _ _ _ _ _ (c .before .before .before .if2 .left) (c .before .before .if3 .taken)))
+    ∙ condition-opposite _ _ _ _ _ (test .flag-test2 .result) (test .before .before .if2 .left) (test .before .if3 .taken) (test .flag-test2 .ensures)
 
 returns-8 : tie.Need-returns-8
 returns-8 c = sym (condition-past _ _ _ _ _ (omega arith))
