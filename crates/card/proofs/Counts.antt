@@ -10,10 +10,10 @@ use Rattle.refusal.specs.declared.Validity.{Validity}
 use Rattle.card.specs.Card.{cardSize, isRun, readFrom, reading, runsIn}
 use Rattle.card.specs.Laws.{one-at-most}
 use Rattle.card.specs.declared.Command.{Command}
-use Rattle.card.specs.declared.Counted.{Counted}
+use Rattle.card.specs.declared.CardValidity.{CardValidity}
 use Rattle.card.proofs.Turns.{Turn}
 
-abbrev counted : Validity → ℕ → Counted
+abbrev counted : Validity → ℕ → CardValidity
 counted v n = record { validity = v; runs = n }
 
 -- the invariant: so many runs stand in front of the position

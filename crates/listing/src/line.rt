@@ -44,7 +44,7 @@ fn put_number(text: &mut [u8], at: usize, number: u8) -> usize
 }
 
 // How the run at the front of a report ended.
-fn put_end(text: &mut [u8], from: usize, report: &[u8]) -> usize
+fn put_outcome(text: &mut [u8], from: usize, report: &[u8]) -> usize
     requires { ⌜ (from ≤ length (now text)) × (reportSize ≤ length (now report)) ⌝ }
     ensures { λ r. ⌜ Wrote (now (text .entry)) (now (text .exit)) from r (def.endingText (getD (now (report .entry)) endingAt 0) ++ (def.space ++ (def.numberText (getD (now (report .entry)) numberAt 0) ++ def.space))) ⌝ }
 {
@@ -86,7 +86,7 @@ pub fn put_line(text: &mut [u8], from: usize, report: &[u8]) -> usize
     requires { ⌜ (from ≤ length (now text)) × (reportSize ≤ length (now report)) ⌝ }
     ensures { λ r. ⌜ Wrote (now (text .entry)) (now (text .exit)) from r (def.lineOf (now (report .entry))) ⌝ }
 {
-    let mut at = put_end(text, from, report);
+    let mut at = put_outcome(text, from, report);
     at = put_counts(text, at, report);
     put_registers(text, at, report)
 }

@@ -38,7 +38,7 @@ fn digit(d: u8) -> u8
     requires { ⌜ d < 16 ⌝ }
     ensures { λ r. ⌜ r ≡ def.digitOf d ⌝ }
 {
-    if d < 10 { 48 + d } else { 55 + d }
+    if d < 10 { b'0' + d } else { b'A' + (d - 10) }
 }
 
 // The decimal digits of a number that has at most `k`.

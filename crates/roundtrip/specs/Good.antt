@@ -8,7 +8,7 @@ use native.Mathlib.Omega.{arith}
 use borrow.Author.Tests.{eq-eqb, eqb-true, lt-ltb}
 use lib.ListN.{getD, length}
 use mir.Val.{boolByte}
-use Rattle.image.specs.Decode.{entriesFrom, stateFrom}
+use Rattle.image.specs.Decode.{tlbEntriesFrom, stateFrom}
 use Rattle.image.specs.Image.{entryBytes, imageOf}
 use Rattle.image.specs.Layout.{imageSize, tlbAt}
 use Rattle.image.specs.Valid.{allZeros, flagGood, goodImage, pendingGood, zerosGood}
@@ -108,7 +108,7 @@ good-encodes st g = subst (λ (s : State). goodImage (imageOf s) ≡ true) (spel
 
 -- ---- the state of a good image
 
-zeros-from : (b : List ℕ) → Bytes b → (n at : ℕ) → allZeros b at n ≡ true → Each Zeros (entriesFrom b at n)
+zeros-from : (b : List ℕ) → Bytes b → (n at : ℕ) → allZeros b at n ≡ true → Each Zeros (tlbEntriesFrom b at n)
 unfolding allZeros zerosGood
 zeros-from b small zero at h k = refl
 zeros-from b small (suc n) at h zero =

@@ -11,7 +11,7 @@ pub enum Test {
     Undefined,
 }
 
-fn answer(holds: bool) -> Test
+fn test_of(holds: bool) -> Test
     ensures { λ r. ⌜ r ≡ def.testOf holds ⌝ }
 {
     if holds { Test::Holds } else { Test::Fails }
@@ -48,13 +48,13 @@ pub fn condition(code: u8, v: bool, c: bool, s: bool, z: bool) -> Test
     ensures { λ r. ⌜ r ≡ def.conditionOf code v c s z ⌝ }
 {
     match code {
-        12 => answer(!(z | c)),
+        12 => test_of(!(z | c)),
         13 => Test::Undefined,
-        14 => answer(z | c),
+        14 => test_of(z | c),
         15 => Test::Holds,
-        0..=3 => answer(flag_test(code, v, c, s, z)),
-        4..=7 => answer(signed_test(code, v, c, s, z)),
-        8..=11 => answer(!flag_test(code - 8, v, c, s, z)),
+        0..=3 => test_of(flag_test(code, v, c, s, z)),
+        4..=7 => test_of(signed_test(code, v, c, s, z)),
+        8..=11 => test_of(!flag_test(code - 8, v, c, s, z)),
         _ => Test::Undefined,
     }
 }
