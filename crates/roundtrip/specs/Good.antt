@@ -24,7 +24,7 @@ use Rattle.word.specs.Bytes.{wordBytes}
 use Rattle.word.specs.Cases.{both, rest, this}
 use Rattle.word.specs.Word.{bit}
 use Rattle.roundtrip.specs.Images.{Fields, fields}
-use Rattle.roundtrip.specs.Statement.{Bytes, Each, GoodState, Word, Zeros}
+use Rattle.roundtrip.specs.Statement.{Bytes, Each, GoodEncodes, GoodState, Word, Zeros}
 
 -- ---- the image of a good state
 
@@ -90,7 +90,7 @@ zeros-good : (e : ℕ) → Zeros e → zerosGood (e / 256 % 256) ≡ true
 unfolding zerosGood
 zeros-good e h = eq-eqb (e / 256 % 256 / 32 % 4) 0 (omega arith)
 
-pub good-encodes : (st : State) → GoodState st → goodImage (imageOf st) ≡ true
+pub good-encodes : GoodEncodes
 unfolding goodImage imageOf wordBytes entryBytes allZeros
 good-encodes st g = subst (λ (s : State). goodImage (imageOf s) ≡ true) (spelled-out st g) good
   where

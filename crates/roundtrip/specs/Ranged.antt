@@ -19,7 +19,7 @@ use Rattle.machine.specs.declared.State.{State}
 use Rattle.word.specs.Bytes.{wordBytes, wordFrom, wordsFrom}
 use Rattle.roundtrip.specs.Each.{each-append, each-cons}
 use Rattle.roundtrip.specs.Good.{bit-small, condition-small, flag-bits, spelled-out, spelledOut, word-back}
-use Rattle.roundtrip.specs.Statement.{Byte, Bytes, Each, EntryFits, GoodState, Ranged, Word}
+use Rattle.roundtrip.specs.Statement.{Byte, Bytes, Decoded, Each, EntryFits, GoodState, Ranged, Word}
 
 -- ---- the state of an image
 
@@ -104,7 +104,7 @@ condition-back Running = refl
 condition-back Halted = refl
 condition-back Lost = refl
 
-pub decoded : (st : State) → GoodState st → Ranged st → stateFrom (imageOf st) ≡ st
+pub decoded : Decoded
 unfolding stateFrom imageOf wordBytes entryBytes
 decoded st g r = subst (λ (s : State). stateFrom (imageOf s) ≡ s) (spelled-out st g) same
   where
