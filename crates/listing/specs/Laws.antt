@@ -27,24 +27,24 @@ unfolding decimalOf
 decimal-long k n h = rw (le-ltb n 10 h)
 
 -- the number that decimal digits say
-abbrev pub valueOf : List ℕ → ℕ
-valueOf ds = foldl (λ (n d : ℕ). n * 10 + (d - code "0")) 0 ds
+abbrev pub decimalValue : List ℕ → ℕ
+decimalValue ds = foldl (λ (n d : ℕ). n * 10 + (d - code "0")) 0 ds
 
 digit-value : (d : ℕ) → d < 10 → digitOf d - code "0" ≡ d
 digit-value d h = rw (lt-ltb d 10 h) (omega arith)
 
-value-more : (ds : List ℕ) (d : ℕ) → valueOf (ds ++ (d ∷ [])) ≡ valueOf ds * 10 + (d - code "0")
+value-more : (ds : List ℕ) (d : ℕ) → decimalValue (ds ++ (d ∷ [])) ≡ decimalValue ds * 10 + (d - code "0")
 value-more ds d = foldl-append (λ (n d : ℕ). n * 10 + (d - code "0")) 0 ds (d ∷ [])
 
 by-ten : (P : Type 0) (n : ℕ) (b : Bool) → ltb n 10 ≡ b → (n < 10 → P) → (10 ≤ n → P) → P
 by-ten P n true e f g = f (ltb-true n 10 e)
 by-ten P n false e f g = g (ltb-false n 10 e)
 
-pub decimal-value : (k n : ℕ) → n < 10 ^ k → 0 < k → valueOf (decimalOf k n) ≡ n
+pub decimal-value : (k n : ℕ) → n < 10 ^ k → 0 < k → decimalValue (decimalOf k n) ≡ n
 decimal-value zero n h p = absurd (omega arith)
 decimal-value (suc k) n h p =
     let room : n < 10 ^ k * 10 = rw pow-suc at h in
-    by-ten (valueOf (decimalOf (suc k) n) ≡ n) n (ltb n 10) refl
+    by-ten (decimalValue (decimalOf (suc k) n) ≡ n) n (ltb n 10) refl
     (λ (s : n < 10). rw (decimal-short k n s) (omega (arith, digit-value n s)))
     (λ (s : 10 ≤ n).
     let more : 0 < k = ⊎-elim (λ (e : k ≡ 0). absurd (let small : n < 10 ^ 0 * 10 = rw e at room in omega arith)) (λ (q : 0 < k). q) (eq-zero-or-pos k) in

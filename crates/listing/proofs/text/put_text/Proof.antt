@@ -1,4 +1,4 @@
--- `listing::text::put_bytes` meets its contract. The loop's invariant: the bytes before `i` are written.
+-- `listing::text::put_text` meets its contract. The loop's invariant: the bytes before `i` are written.
 -- Assumes nothing.
 use Prim.Native.Nat.{ℕ, _-_}
 use native.Mathlib.Numerals.{add-one}
@@ -6,8 +6,8 @@ use native.Mathlib.Omega.{arith}
 use lib.ListN.{length, take}
 use lib.Seq.{take-all, take-suc}
 use Rattle.listing.proofs.Wrote.{Writing, nothing, same-room, then}
-use Rattle.listing.proofs.text.put_bytes.Statement.{statement}
-use Rattle.listing.proofs.text.put_bytes.Tie as tie
+use Rattle.listing.proofs.text.put_text.Statement.{statement}
+use Rattle.listing.proofs.text.put_text.Tie as tie
 
 abbrev Inv-loop : tie.InvT-loop
 Inv-loop text₀ from bytes at₀ i₀ text at i = Writing text₀ text from at (take i bytes) i (length bytes)
@@ -42,8 +42,8 @@ same-length c = same-room (c .before .loop .inv .wrote)
 returns : tie.Need-returns Inv-loop μ-loop
 returns c = rw (take-all _ _ (c .loop-test .left)) at (c .before .loop .inv .wrote)
 
-pub put-bytes-spec : {M : Type 1} → statement M
-put-bytes-spec =
+pub put-text-spec : {M : Type 1} → statement M
+put-text-spec =
     tie.close
     (tie.spec
     Inv-loop
