@@ -65,9 +65,9 @@ report-enough (Refused r) needed long h = refl
 report-enough Good needed long h = rw (le-leb needed long h)
 
 -- memory, image and report are good, so a card is refused only for itself
-pub bench-tested : (card : List ℕ) → cardValid (length zeroMemory) firstImage card (length zeroReport) ≡ (readingOf card) .validity
+pub bench-validity : (card : List ℕ) → cardValid (length zeroMemory) firstImage card (length zeroReport) ≡ (readingOf card) .validity
 unfolding cardValid
-bench-tested card =
+bench-validity card =
     let needed : ℕ = reportSize * runsIn ((readingOf card) .commands) in
     let room : needed ≤ length zeroReport = omega (arith, length-replicate {A = ℕ} 16380 0, runs-bound card) in
     rw (first-good (length zeroMemory) (length-replicate {A = ℕ} 65536 0)) (report-enough ((readingOf card) .validity) needed (length zeroReport) room)

@@ -3,14 +3,14 @@ ghost use mathlib.Core.Path.{_≡_};
 ghost use Prim.Native.Nat.{_≤_};
 ghost use lib.ListN.{length, take};
 ghost use Rattle.bench.specs.Bench.{benchOf};
+use image::FLAG;
 use image::IMAGE;
-use image::layout::FLAG;
 
 // Bit P of FLAG.
 const PRIVILEGED: u8 = 0x40;
 
 // The listing of a card on zero memory and an image that is zero but FLAG 0040h.
-fn listed(card: &[u8], text: &mut [u8]) -> usize
+fn list_card(card: &[u8], text: &mut [u8]) -> usize
     requires { ⌜ 65536 ≤ length (now text) ⌝ }
     ensures count { λ r. ⌜ r ≡ length (benchOf (now (card .entry))) ⌝ }
     ensures text { λ r. ⌜ take r (now (text .exit)) ≡ benchOf (now (card .entry)) ⌝ }
@@ -29,11 +29,11 @@ fn listed(card: &[u8], text: &mut [u8]) -> usize
 fn main() {
     let mut card = [0u8; 4097];
     let input = input::read_input(&mut card);
-    if !input.complete {
+    if !input.complete() {
         return;
     }
     let count = input.count;
     let mut text = [0u8; 65536];
-    let written = listed(&card[..count], &mut text);
+    let written = list_card(&card[..count], &mut text);
     io::write_all(libc::STDOUT_FILENO, &text[..written]);
 }

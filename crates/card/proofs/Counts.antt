@@ -10,11 +10,11 @@ use Rattle.refusal.specs.declared.Validity.{Validity}
 use Rattle.card.specs.Card.{cardSize, isRun, readFrom, reading, runsIn}
 use Rattle.card.specs.Laws.{one-at-most}
 use Rattle.card.specs.declared.Command.{Command}
-use Rattle.card.specs.declared.Counted.{Counted}
+use Rattle.card.specs.declared.CardValidity.{CardValidity}
 use Rattle.card.proofs.Turns.{Turn}
 
-abbrev counted : Validity → ℕ → Counted
-counted v n = record { validity = v; runs = n }
+abbrev validityWith : Validity → ℕ → CardValidity
+validityWith v n = record { validity = v; runs = n }
 
 -- the invariant: so many runs stand in front of the position
 pub record Counting (card : List ℕ) (at runs : ℕ) : Type 0 where
@@ -30,7 +30,7 @@ module _ {card : List ℕ} {at runs : ℕ} (so-far : Counting card at runs) wher
   -- nothing more is read
   pub ended :
       {v : Validity} → length card ≤ cardSize → readFrom card at ≡ reading [] v
-      → (counted v runs ≡ counted ((readFrom card 0) .validity) (runsIn ((readFrom card 0) .commands))) × (runs ≤ cardSize)
+      → (validityWith v runs ≡ validityWith ((readFrom card 0) .validity) (runsIn ((readFrom card 0) .commands))) × (runs ≤ cardSize)
   unfolding runsIn
   ended {v} short e =
       let total : runsIn ((readFrom card 0) .commands) ≡ runs = so-far .total ∙ rw e (add-zero runs) in

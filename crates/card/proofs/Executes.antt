@@ -13,25 +13,25 @@ use Rattle.report.specs.Layout.{reportSize}
 use Rattle.card.specs.Card.{isRun, readFrom, reading, runsIn}
 use Rattle.card.specs.Effect.{behind, Effect, effect, effectOf, executeOf}
 use Rattle.card.specs.Laws.{reports-long}
-use Rattle.card.specs.declared.Acted.{Acted}
+use Rattle.card.specs.declared.Progress.{Progress}
 use Rattle.card.specs.declared.Command.{Command}
 use Rattle.card.proofs.Turns.{Turn}
 
-abbrev pub acted : State → ℕ → Acted
-acted st filled = record { state = st; filled = filled }
+abbrev pub progress : State → ℕ → Progress
+progress st filled = record { state = st; filled = filled }
 
 -- ---- a command
 
 -- the answer, the memory and the report after a command, as its contract has them
-abbrev pub Did : Command → State → List ℕ → List ℕ → ℕ → Acted → List ℕ → List ℕ → Type 0
+abbrev pub Did : Command → State → List ℕ → List ℕ → ℕ → Progress → List ℕ → List ℕ → Type 0
 Did x st m rep filled a m′ rep′ =
-    (a ≡ acted ((effectOf x st m) .state) (filled + reportSize * isRun x))
+    (a ≡ progress ((effectOf x st m) .state) (filled + reportSize * isRun x))
     × ((m′ ≡ (effectOf x st m) .memory)
     × (rep′ ≡ take filled rep ++ ((effectOf x st m) .reports ++ drop (filled + reportSize * isRun x) rep)))
 
 -- a command that is no run writes no report
 module _ {x y : Command} (st : State) {st′ : State} (m : List ℕ) {m′ : List ℕ} (rep : List ℕ) (filled : ℕ) where
-  pub silent : x ≡ y → isRun y ≡ 0 → effectOf y st m ≡ effect st′ m′ [] → Did x st m rep filled (acted st′ filled) m′ rep
+  pub silent : x ≡ y → isRun y ≡ 0 → effectOf y st m ≡ effect st′ m′ [] → Did x st m rep filled (progress st′ filled) m′ rep
   silent e z f = rw (e, f, z, add-zero filled) (refl, (refl, sym (take-append-drop filled rep)))
 
 -- ---- the loop
@@ -118,6 +118,6 @@ module _ {card : List ℕ} {st₀ : State} {m₀ rep₀ : List ℕ} {at filled :
 
     -- the command is done
     pub goes-on :
-        {a : Acted} {mem report : List ℕ} → Did x st m rep filled a mem report → length mem ≡ length m
+        {a : Progress} {mem report : List ℕ} → Did x st m rep filled a mem report → length mem ≡ length m
         → Executing card st₀ m₀ rep₀ next (a .filled) (a .state) mem report
     goes-on did same = rw (did .0, did .1 .0, did .1 .1, ← append-assoc) (on (rw (did .1 .0) at same))

@@ -11,11 +11,11 @@ ghost use Rattle.image.specs.Image.{imageOf};
 ghost use Rattle.image.specs.Layout.{imageSize};
 ghost use Rattle.report.specs.Layout.{reportSize};
 use crate::effects::execute;
-use crate::tests::validate;
+use crate::validity::validate;
 use refusal::Validity;
 
-// A card on buffers that were tested.
-fn execute_tested(memory: &mut [u8], image: &mut [u8], card: &[u8], report: &mut [u8])
+// A card on buffers that are valid.
+fn execute_valid(memory: &mut [u8], image: &mut [u8], card: &[u8], report: &mut [u8])
     requires { ⌜ (length (now memory) ≡ 65536) × (length (now image) ≡ imageSize) × (length (now card) ≤ cardSize) × (reportSize * runsIn ((readFrom (now card) 0) .commands) ≤ length (now report)) ⌝ }
     ensures memory { λ _. ⌜ now (memory .exit) ≡ (executeOf ((readFrom (now (card .entry)) 0) .commands) (stateFrom (now (image .entry))) (now (memory .entry))) .memory ⌝ }
     ensures image { λ _. ⌜ now (image .exit) ≡ imageOf ((executeOf ((readFrom (now (card .entry)) 0) .commands) (stateFrom (now (image .entry))) (now (memory .entry))) .state) ⌝ }
@@ -33,13 +33,13 @@ pub fn perform(memory: &mut [u8], image: &mut [u8], card: &[u8], report: &mut [u
     ensures image { λ _. ⌜ now (image .exit) ≡ (def.cardCall (now (memory .entry)) (now (image .entry)) (now (card .entry)) (now (report .entry))) .image ⌝ }
     ensures report { λ _. ⌜ now (report .exit) ≡ (def.cardCall (now (memory .entry)) (now (image .entry)) (now (card .entry)) (now (report .entry))) .report ⌝ }
 {
-    let tested = validate(memory.len(), image, card, report.len());
-    let validity = tested.validity;
+    let checked = validate(memory.len(), image, card, report.len());
+    let validity = checked.validity;
     match validity {
         Validity::Refused(refusal) => refusal::answer_of(refusal),
         Validity::Good => {
-            execute_tested(memory, image, card, report);
-            tested.needed as u64
+            execute_valid(memory, image, card, report);
+            checked.needed as u64
         }
     }
 }

@@ -10,9 +10,9 @@ ghost use Rattle.report.specs.Layout.{reportSize};
 ghost use Rattle.report.specs.Report.{reportOfRan};
 ghost use Rattle.machine.specs.Run.{runOf};
 ghost use Rattle.machine.specs.State.{withMmu, withTlb};
-use crate::Acted;
 use crate::Command;
 use crate::Parsed;
+use crate::Progress;
 use crate::parser::parse;
 use decode::Table;
 use machine::Ports;
@@ -80,7 +80,7 @@ fn set_byte(memory: &mut [u8], address: u16, value: u8)
 }
 
 // 04: a run, its report at `filled`.
-fn run_reported(
+fn run_with_report(
     state: State,
     memory: &mut [u8],
     allowance: u16,
@@ -109,14 +109,14 @@ fn run_reported(
 }
 
 // What a command does, its report at `filled`.
-fn act(
+fn execute_command(
     command: Command,
     state: State,
     memory: &mut [u8],
     report: &mut [u8],
     filled: usize,
     table: &Table,
-) -> Acted
+) -> Progress
     requires { ⌜ (length (now memory) ≡ 65536) × (filled + reportSize * isRun command ≤ length (now report)) × (now table ≡ tableOf) ⌝ }
     ensures answer { λ r. ⌜ r ≡ record { state = (def.effectOf command state (now (memory .entry))) .state; filled = filled + reportSize * isRun command } ⌝ }
     ensures memory { λ _. ⌜ now (memory .exit) ≡ (def.effectOf command state (now (memory .entry))) .memory ⌝ }
@@ -125,29 +125,29 @@ fn act(
     match command {
         Command::Byte(address, value) => {
             set_byte(memory, address, value);
-            Acted { state, filled }
+            Progress { state, filled }
         }
-        Command::Register(number, value) => Acted {
+        Command::Register(number, value) => Progress {
             state: set_register(state, number, value),
             filled,
         },
-        Command::Lines(lines, byte) => Acted {
+        Command::Lines(lines, byte) => Progress {
             state: add_lines(state, lines, byte),
             filled,
         },
-        Command::Run(allowance) => Acted {
-            state: run_reported(state, memory, allowance, report, filled, table),
+        Command::Run(allowance) => Progress {
+            state: run_with_report(state, memory, allowance, report, filled, table),
             filled: filled + REPORT,
         },
-        Command::Entry(number, bits) => Acted {
+        Command::Entry(number, bits) => Progress {
             state: set_entry(state, number, bits),
             filled,
         },
-        Command::Mmu(on) => Acted {
+        Command::Mmu(on) => Progress {
             state: set_mmu(state, on),
             filled,
         },
-        Command::Flag(flag) => Acted {
+        Command::Flag(flag) => Progress {
             state: state.load_flag(flag),
             filled,
         },
@@ -170,9 +170,9 @@ pub fn execute(first: State, memory: &mut [u8], card: &[u8], report: &mut [u8]) 
             Parsed::End => return state,
             Parsed::Bad(_) => return state,
             Parsed::Next(command, next) => {
-                let acted = act(command, state, memory, report, filled, &table);
-                state = acted.state;
-                filled = acted.filled;
+                let progress = execute_command(command, state, memory, report, filled, &table);
+                state = progress.state;
+                filled = progress.filled;
                 at = next;
             }
         }

@@ -2,7 +2,7 @@
 mod calls;
 mod effects;
 mod parser;
-mod tests;
+mod validity;
 
 pub use calls::perform;
 pub use calls::run_card;
@@ -39,19 +39,19 @@ pub enum Parsed {
 }
 
 // The tests of a card by itself, and the number of its runs.
-pub struct Counted {
+struct CardValidity {
     pub validity: Validity,
     pub runs: usize,
 }
 
 // The tests of a card's call, and the report bytes that its runs need.
-pub struct Tested {
+struct CallValidity {
     pub validity: Validity,
     pub needed: usize,
 }
 
 // The state after some commands, and how many report bytes are filled.
-pub struct Acted {
+struct Progress {
     pub state: State,
     pub filled: usize,
 }

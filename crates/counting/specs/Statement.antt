@@ -1,14 +1,14 @@
 -- What a run counts. Document 01, "Faults in order": "A run does at most its allowance of steps, 0 to 65,535, and reports how many it did.
 -- Before the first step and after each it ends if one of these holds, the earlier named winning: halted or lost (also found so, with 0
 -- steps), kernel entered by the step just done, allowance spent." "What each place should look like": "Run's counted steps equal the
--- number of definition steps to the named ending." `counted`: what `runOf` gives is `Counted`. `only`: nothing else is.
+-- number of definition steps to the named ending."
 -- Assumes nothing.
 use mathlib.Core.Bool.{Bool, false, true}
 use mathlib.Core.List.{List}
 use mathlib.Core.Path.{_≡_}
 use Prim.Native.Nat.{ℕ, suc, zero, _+_, _≤_, _<_}
 use Rattle.machine.specs.Answers.{statesOf}
-use Rattle.machine.specs.Run.{Ran, iterate}
+use Rattle.machine.specs.Run.{Ran, iterate, runOf}
 use Rattle.machine.specs.Step.{stepOf}
 use Rattle.machine.specs.declared.Condition.{Condition}
 use Rattle.machine.specs.declared.Condition.the-variants as condition
@@ -86,3 +86,13 @@ pub record Counted (allowance : ℕ) (st : State) (m : List ℕ) (r : Ran) : Typ
   pub notEntered : Calm (r .steps) st m
   -- and after the last it ends by the ending that it names
   pub ended : Ended allowance st m (r .steps) (r .ending)
+
+-- ---- the theorems
+
+-- `counted`: what `runOf` gives is counted
+abbrev pub RunCounted : Type 0
+RunCounted = (allowance : ℕ) (st : State) (m : List ℕ) → Counted allowance st m (runOf allowance st m)
+
+-- `only`: and nothing else is
+abbrev pub OnlyRun : Type 0
+OnlyRun = (allowance : ℕ) (st : State) (m : List ℕ) (r r′ : Ran) → Counted allowance st m r → Counted allowance st m r′ → r ≡ r′

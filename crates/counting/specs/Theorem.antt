@@ -18,7 +18,7 @@ use Rattle.machine.specs.declared.Ending.the-variants as ending
 use Rattle.machine.specs.declared.Event.{Event}
 use Rattle.machine.specs.declared.Event.the-variants as event
 use Rattle.machine.specs.declared.State.{State}
-use Rattle.counting.specs.Statement.{Calm, CalmLast, Counted, Ended, Runs, conditionAfter, entry, eventAt, statesSum}
+use Rattle.counting.specs.Statement.{Calm, CalmLast, Counted, Ended, OnlyRun, RunCounted, Runs, conditionAfter, entry, eventAt, statesSum}
 
 -- ---- a run that ends where it starts
 
@@ -127,7 +127,7 @@ module _ (st : State) (m : List ℕ) where
     unless-entered event.Lost r d x = goes-on (rw d) _ (rw d) r x
 
 -- "Run's counted steps equal the number of definition steps to the named ending."
-pub counted : (allowance : ℕ) (st : State) (m : List ℕ) → Counted allowance st m (runOf allowance st m)
+pub counted : RunCounted
 unfolding runOf runFrom iterate
 counted zero st m =
     unless-stopped zero st m (st .condition) _ refl
@@ -190,10 +190,13 @@ module _ (allowance : ℕ) (st : State) (m : List ℕ) where
   goes-further n ending.Halted e r c l = let z : _≡_ {A = ℕ} 0 1 = cc (c .running n l) in omega arith
   goes-further n ending.Lost e r c l = let z : _≡_ {A = ℕ} 0 1 = cc (c .running n l) in omega arith
 
-  -- two counted runs are one
-  pub only : (r r′ : Ran) → Counted allowance st m r → Counted allowance st m r′ → r ≡ r′
-  only r r′ c c′ =
+  two-are-one : (r r′ : Ran) → Counted allowance st m r → Counted allowance st m r′ → r ≡ r′
+  two-are-one r r′ c c′ =
       let above : ¬ (r .steps < r′ .steps) = goes-further (r .steps) (r .ending) (c .ended) r′ c′ in
       let below : ¬ (r′ .steps < r .steps) = goes-further (r′ .steps) (r′ .ending) (c′ .ended) r c in
       let e : r .steps ≡ r′ .steps = omega arith in
       is-run r c ∙ ap runAfter e ∙ sym (is-run r′ c′)
+
+-- two counted runs are one
+pub only : OnlyRun
+only = two-are-one

@@ -8,12 +8,12 @@ use native.Mathlib.Numerals.{add-one}
 use native.Mathlib.Omega.{arith}
 use lib.ListN.{getD}
 use Rattle.word.specs.ByteLaws.{Laid, one-more}
-use Rattle.image.specs.Decode.{entriesFrom, entryFrom}
+use Rattle.image.specs.Decode.{tlbEntriesFrom, entryFrom}
 use Rattle.image.specs.Image.{entryBytes}
 use Rattle.image.specs.Valid.{allZeros, zerosGood}
 
-pub entries-more : (b : List ℕ) (at n : ℕ) → entriesFrom b at (n + 1) ≡ entriesFrom b at n ++ (entryFrom b (at + 3 * n) ∷ [])
-entries-more b = one-more (entryFrom b) 3 (entriesFrom b) (λ at. refl) (λ at n. refl)
+pub entries-more : (b : List ℕ) (at n : ℕ) → tlbEntriesFrom b at (n + 1) ≡ tlbEntriesFrom b at n ++ (entryFrom b (at + 3 * n) ∷ [])
+entries-more b = one-more (entryFrom b) 3 (tlbEntriesFrom b) (λ at. refl) (λ at n. refl)
 
 pub entries-laid : Laid 3 entryBytes
 unfolding entryBytes
@@ -46,22 +46,22 @@ zeros-more b (suc n) at =
     ∙ and-assoc (zerosAt b at) (allZeros b (at + 3) n) (zerosAt b (at + 3 + 3 * n))
     ∙ ap (λ (k : ℕ). (zerosAt b at && allZeros b (at + 3) n) && zerosAt b k) (omega arith)
 
--- `k` of the 8 entries from `at` on have been tested
-pub record Tested (b : List ℕ) (at : ℕ) (good : Bool) (k : ℕ) : Type 0 where
+-- the zeros of `k` of the 8 entries from `at` on
+pub record ZerosUpTo (b : List ℕ) (at : ℕ) (good : Bool) (k : ℕ) : Type 0 where
   pub within : k ≤ 8
   pub are : good ≡ allZeros b at k
 
-pub tested-none : (b : List ℕ) (at : ℕ) → Tested b at true 0
+pub up-to-none : (b : List ℕ) (at : ℕ) → ZerosUpTo b at true 0
 unfolding allZeros
-tested-none b at = record { within = omega arith; are = refl }
+up-to-none b at = record { within = omega arith; are = refl }
 
-pub tested-more :
-    {b : List ℕ} {at : ℕ} {good : Bool} {k : ℕ} {one : Bool} → Tested b at good k → k < 8
-    → one ≡ zerosAt b (at + 3 * k) → Tested b at (good && one) (k + 1)
-tested-more {b} {at} {good} {k} {one} t h e =
+pub up-to-more :
+    {b : List ℕ} {at : ℕ} {good : Bool} {k : ℕ} {one : Bool} → ZerosUpTo b at good k → k < 8
+    → one ≡ zerosAt b (at + 3 * k) → ZerosUpTo b at (good && one) (k + 1)
+up-to-more {b} {at} {good} {k} {one} t h e =
     record { within = omega arith; are = rw (t .are, e, zeros-more b k at) }
 
-pub tested-all : {b : List ℕ} {at : ℕ} {good : Bool} {k : ℕ} → Tested b at good k → 8 ≤ k → good ≡ allZeros b at 8
-tested-all {b} {at} {good} {k} t h =
+pub up-to-all : {b : List ℕ} {at : ℕ} {good : Bool} {k : ℕ} → ZerosUpTo b at good k → 8 ≤ k → good ≡ allZeros b at 8
+up-to-all {b} {at} {good} {k} t h =
     let e : k ≡ 8 = omega arith in
     t .are ∙ ap (allZeros b at) e

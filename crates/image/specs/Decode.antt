@@ -18,9 +18,9 @@ abbrev pub entryFrom : List ℕ → ℕ → ℕ
 entryFrom b at = getD b at 0 * 65536 + getD b (at + 1) 0 * 256 + getD b (at + 2) 0
 
 -- `n` TLB entries from an offset on
-abbrev pub entriesFrom : List ℕ → ℕ → ℕ → List ℕ
-entriesFrom b at zero = []
-entriesFrom b at (suc n) = entryFrom b at ∷ entriesFrom b (at + 3) n
+abbrev pub tlbEntriesFrom : List ℕ → ℕ → ℕ → List ℕ
+tlbEntriesFrom b at zero = []
+tlbEntriesFrom b at (suc n) = entryFrom b at ∷ tlbEntriesFrom b (at + 3) n
 
 -- the condition of this number
 unfoldable pub conditionFrom : ℕ → Condition
@@ -40,5 +40,5 @@ stateFrom b =
       mmu = eqb (byteFrom b mmuAt) 1;
       condition = conditionFrom (byteFrom b conditionAt);
       fault = record { violation = wordFrom b violationAt; cause = byteFrom b causeAt; missed = byteFrom b missedAt };
-      tlb = entriesFrom b tlbAt 8;
+      tlb = tlbEntriesFrom b tlbAt 8;
     }

@@ -1,12 +1,13 @@
 // The state image: a machine's state as bytes.
-mod decoding;
-mod encoding;
-pub mod layout;
+mod decoder;
+mod encoder;
+mod layout;
 mod validity;
 
-pub use decoding::entry_from;
-pub use decoding::read_image;
-pub use encoding::write_image;
+pub use decoder::entry_from;
+pub use decoder::read_image;
+pub use encoder::write_image;
+pub use layout::FLAG;
 pub use layout::IMAGE;
 pub use validity::flag_good;
 pub use validity::pending_good;

@@ -1,37 +1,64 @@
 // Standard input, read to its end.
+ghost use mathlib.Core.Path.{_≡_};
 ghost use Prim.Native.Nat.{_≤_};
 ghost use lib.ListN.{length};
+ghost use lib.Signed.{nonNeg};
+ghost use Rattle.input.specs.Input.{ReadAt, ReadTo};
 
-// How many bytes stand at the front of the buffer, and whether every read was answered.
+// How many bytes stand at the front of the buffer, and what the last read answered: 0 at the end of the input, -1 if it failed, else how many
+// bytes it filled the buffer up with. It is 0 too if there was no read.
 pub struct Input {
-    pub complete: bool,
     pub count: usize,
+    pub last: isize,
 }
 
-// Reads until the input ends or the buffer is full.
+impl Input {
+    // Whether every read was answered: one that fails is the last.
+    pub fn complete(self) -> bool
+        ensures { λ r. ⌜ r ≡ nonNeg (self .last) ⌝ }
+    {
+        self.last >= 0
+    }
+}
+
+fn least(a: usize, b: usize) -> usize
+    ensures { λ r. ⌜ (r ≤ a) × (r ≤ b) ⌝ }
+{
+    if a < b { a } else { b }
+}
+
+// One read to an offset, by way of a chunk: `libc::read` leaves open what it does to the bytes behind those that it read.
+fn read_by(chunk: &mut [u8], buffer: &mut [u8], at: usize) -> isize
+    requires { ⌜ at ≤ length (now buffer) ⌝ }
+    ensures { λ r. ⌜ ReadAt (now (buffer .entry)) at r (now (buffer .exit)) ⌝ }
+{
+    let room = least(buffer.len() - at, chunk.len());
+    let got = libc::read(libc::STDIN_FILENO, &mut chunk[..room]);
+    let more = io::count(got, &chunk[..room]);
+    word::put_bytes(buffer, at, &chunk[..more]);
+    got
+}
+
+fn read_at(buffer: &mut [u8], at: usize) -> isize
+    requires { ⌜ at ≤ length (now buffer) ⌝ }
+    ensures { λ r. ⌜ ReadAt (now (buffer .entry)) at r (now (buffer .exit)) ⌝ }
+{
+    let mut chunk = [0u8; 4096];
+    read_by(&mut chunk, buffer, at)
+}
+
+// Reads until the input ends, a read fails or the buffer is full.
 pub fn read_input(buffer: &mut [u8]) -> Input
-    ensures { λ r. ⌜ r .count ≤ length (now (buffer .entry)) ⌝ }
+    ensures { λ r. ⌜ ReadTo (now (buffer .entry)) (now (buffer .exit)) (r .count) (r .last) ⌝ }
 {
     let mut count = 0;
+    let mut last = 0;
     while count < buffer.len() {
-        let got = libc::read(libc::STDIN_FILENO, &mut buffer[count..]);
-        if got < 0 {
-            return Input {
-                complete: false,
-                count,
-            };
+        last = read_at(buffer, count);
+        if last <= 0 {
+            break;
         }
-        let more = io::count(got, &buffer[count..]);
-        if more == 0 {
-            return Input {
-                complete: true,
-                count,
-            };
-        }
-        count += more;
+        count += last as usize;
     }
-    Input {
-        complete: true,
-        count,
-    }
+    Input { count, last }
 }

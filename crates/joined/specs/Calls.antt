@@ -18,7 +18,7 @@ use Rattle.roundtrip.specs.Good.{good-decoded, good-encodes, image-long}
 use Rattle.roundtrip.specs.Ranged.{image-bytes, ranged-decoded}
 use Rattle.roundtrip.specs.Statement.{Bytes}
 use Rattle.joined.specs.Keeps.{Kept, execute-good}
-use Rattle.joined.specs.Statement.{Left}
+use Rattle.joined.specs.Statement.{CardLeaves, Left}
 
 -- ---- a call that passed them
 
@@ -37,9 +37,8 @@ module _ (m b card rep : List ℕ) (good : cardValid (length m) b card (length r
         let fields : goodImage b ≡ true = passed (length m) b card (length rep) good .fields in
         execute-good card bytes (stateFrom b) m (good-decoded b image fields) (ranged-decoded b image) memory
 
-    -- what a card leaves can be handed to another call
-    pub card-leaves : Left m (cardCall m b card rep)
-    card-leaves =
+    leaves : Left m (cardCall m b card rep)
+    leaves =
         let st : State = (cardExecuted m b card) .state in
         let k : Kept (length m) st ((cardExecuted m b card) .memory) = call-keeps in
         rw call-is
@@ -53,4 +52,8 @@ module _ (m b card rep : List ℕ) (good : cardValid (length m) b card (length r
 
     -- the image that a card leaves is good
     pub card-image : goodImage ((cardCall m b card rep) .image) ≡ true
-    card-image = card-leaves .imageGood
+    card-image = leaves .imageGood
+
+-- what a card leaves can be handed to another call
+pub card-leaves : CardLeaves
+card-leaves = leaves

@@ -74,3 +74,19 @@ pub record Left (m : List ℕ) (call : Call) : Type 0 where
   pub imageBytes : Bytes (call .image)
   pub imageLong : length (call .image) ≡ imageSize
   pub imageGood : goodImage (call .image) ≡ true
+
+-- ---- the theorems
+
+-- `as-one`: two cards whose joint call passes its tests do what they do as one card
+abbrev pub TwoAsOne : Type 0
+TwoAsOne = (m b a c rep : List ℕ) → Given m b a c rep → AsOne m b a c rep
+
+-- `joint-good`: where the two calls pass their tests so does the joint one
+abbrev pub JointGood : Type 0
+JointGood = (m b a c rep : List ℕ) → Apart m b a c rep → cardValid (length m) b (a ++ c) (length rep) ≡ Good
+
+-- `card-leaves`: what a card leaves can be handed to another call
+abbrev pub CardLeaves : Type 0
+CardLeaves =
+    (m b card rep : List ℕ) → cardValid (length m) b card (length rep) ≡ Good → Bytes m → Bytes b → Bytes card
+    → Left m (cardCall m b card rep)

@@ -21,7 +21,7 @@ use Rattle.joined.specs.Calls.{call-is, call-keeps, card-leaves, cardExe
 use Rattle.joined.specs.Keeps.{Kept}
 use Rattle.joined.specs.Executing.{onward, execute-both, runs-both}
 use Rattle.joined.specs.Reading.{commands-joined, joined-good, second-good}
-use Rattle.joined.specs.Statement.{Apart, AsOne, Given, Left, firstCall, imageLeft, jointCall, memoryLeft, reportLeft, secondCall}
+use Rattle.joined.specs.Statement.{Apart, AsOne, Given, JointGood, Left, TwoAsOne, firstCall, imageLeft, jointCall, memoryLeft, reportLeft, secondCall}
 
 -- ---- both cards' commands
 
@@ -61,8 +61,8 @@ module _ (m b a c rep : List ℕ) where
 
   -- ---- both calls pass their tests: so does the joint one
 
-  pub joint-good : Apart m b a c rep → cardValid (length m) b (a ++ c) (length rep) ≡ Good
-  joint-good x =
+  joint-passes : Apart m b a c rep → cardValid (length m) b (a ++ c) (length rep) ≡ Good
+  joint-passes x =
       let p : Passed (length m) b a (length rep) = passed (length m) b a (length rep) (x .firstGood) in
       let q : Passed _ _ c (length (reportLeft m b a c rep)) = passed _ _ c (length (reportLeft m b a c rep)) (x .secondGood) in
       let left : reportSize * runsIn (commands c) ≤ length (drop filled rep) = rw (rest-is (x .firstGood)) at (q .room) in
@@ -129,8 +129,8 @@ module _ (m b a c rep : List ℕ) where
         ∙ rw (all, commands-joined a c (given .firstCard) (joint .read), execute-both (commands a) (commands c) (stateFrom b) m)
 
     -- the two calls do what the joint one does
-    pub as-one : AsOne m b a c rep
-    as-one =
+    do-as-one : AsOne m b a c rep
+    do-as-one =
         let f : firstCall m b a c rep ≡ executedCall filled one rep = first-is first-passes in
         let n : (firstCall m b a c rep) .answer ≡ filled = ap (λ (x : Call). x .answer) f in
         let k : (secondCall m b a c rep) .answer ≡ reportSize * runsIn (commands c) = ap (λ (x : Call). x .answer) second-is in
@@ -151,3 +151,9 @@ module _ (m b a c rep : List ℕ) where
                 append-assoc,
               );
         }
+
+pub as-one : TwoAsOne
+as-one = do-as-one
+
+pub joint-good : JointGood
+joint-good = joint-passes

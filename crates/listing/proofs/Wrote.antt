@@ -8,7 +8,7 @@ use native.Mathlib.Omega.{arith, min-cases}
 use lib.ListN.{length, length-append, set}
 use lib.Seq.{drop-nil, length-sets, set-out, sets}
 use Rattle.listing.specs.Listing.{over}
-use Rattle.listing.specs.Written.{Wrote}
+use Rattle.listing.specs.Written.{WroteText}
 
 sets-append : (t : List ℕ) (i : ℕ) (xs ys : List ℕ) → sets t i (xs ++ ys) ≡ sets (sets t i xs) (i + length xs) ys
 sets-append t i [] ys = rw add-zero
@@ -36,11 +36,11 @@ sets-over [] xs = sets-out [] 0 xs zero-le ∙ sym (drop-nil (length xs))
 sets-over (a ∷ t) [] = refl
 sets-over (a ∷ t) (x ∷ xs) = sets-cons x t 0 xs ∙ ap (λ (l : List ℕ). x ∷ l) (sets-over t xs)
 
-module _ {t₀ t₁ : List ℕ} {at₀ at₁ : ℕ} {xs : List ℕ} (w : Wrote t₀ t₁ at₀ at₁ xs) where
+module _ {t₀ t₁ : List ℕ} {at₀ at₁ : ℕ} {xs : List ℕ} (w : WroteText t₀ t₁ at₀ at₁ xs) where
   pub same-room : length t₁ ≡ length t₀
   same-room = ap length (w .text) ∙ length-sets t₀ at₀ xs
 
-  pub then : {t₂ : List ℕ} {at₂ : ℕ} {ys : List ℕ} → Wrote t₁ t₂ at₁ at₂ ys → Wrote t₀ t₂ at₀ at₂ (xs ++ ys)
+  pub then : {t₂ : List ℕ} {at₂ : ℕ} {ys : List ℕ} → WroteText t₁ t₂ at₁ at₂ ys → WroteText t₀ t₂ at₀ at₂ (xs ++ ys)
   then {t₂} {at₂} {ys} v =
       record {
         text =
@@ -53,14 +53,14 @@ module _ {t₀ t₁ : List ℕ} {at₀ at₁ : ℕ} {xs : List ℕ} (w : Wrote t
       }
 
 -- a cursor that is within the buffer
-pub nothing : (t : List ℕ) (at : ℕ) → at ≤ length t → Wrote t t at at []
+pub nothing : (t : List ℕ) (at : ℕ) → at ≤ length t → WroteText t t at at []
 nothing t at h = record { text = refl; cursor = omega arith }
 
 -- what is written from the start
-pub whole : {t₀ t₁ : List ℕ} {at : ℕ} {xs : List ℕ} → Wrote t₀ t₁ 0 at xs → (at ≡ min (length xs) (length t₀)) × (t₁ ≡ over t₀ xs)
+pub whole : {t₀ t₁ : List ℕ} {at : ℕ} {xs : List ℕ} → WroteText t₀ t₁ 0 at xs → (at ≡ min (length xs) (length t₀)) × (t₁ ≡ over t₀ xs)
 whole {t₀} {t₁} {at} {xs} w = (omega arith, w .text ∙ sets-over t₀ xs)
 
 -- the invariant of a loop that writes: so many of the pieces are written
 pub record Writing (before after : List ℕ) (from to : ℕ) (pieces : List ℕ) (i n : ℕ) : Type 0 where
-  pub wrote : Wrote before after from to pieces
+  pub wrote : WroteText before after from to pieces
   pub within : i ≤ n

@@ -4,6 +4,7 @@ use mathlib.Core.Bool.{Bool, cond, false, true}
 use mathlib.Core.List.{List, [], foldl, foldl-append, _++_, _∷_}
 use mathlib.Core.Logic.{⊎-elim}
 use mathlib.Core.Path.{refl, _≡_}
+use Prim.Native.Char.{code}
 use Prim.Native.Nat.{suc, zero, ℕ, _%_, _*_, _+_, _-_, _/_, _<_, _^_, _≤_}
 use native.Mathlib.Nat.{eq-zero-or-pos, pow-suc}
 use native.Mathlib.Omega.{arith}
@@ -13,7 +14,7 @@ use borrow.Author.Tests.{le-ltb, lt-ltb, ltb-false, ltb-true}
 use Rattle.report.specs.Layout.{endingAt, numberAt, reportSize, statesAt, stepsAt}
 use Rattle.word.specs.Bytes.{wordFrom}
 use Rattle.listing.specs.Listing.{endingText, lineOf, linesOf, listingOf, numberText, refusedText, runsText}
-use Rattle.listing.specs.Text.{decimalOf, digitOf, hexOf}
+use Rattle.listing.specs.Text.{ascii, decimalOf, digitOf, hexOf}
 
 -- a number below 10 is one digit
 pub decimal-short : (k n : ℕ) → n < 10 → decimalOf (suc k) n ≡ digitOf n ∷ []
@@ -26,24 +27,24 @@ unfolding decimalOf
 decimal-long k n h = rw (le-ltb n 10 h)
 
 -- the number that decimal digits say
-abbrev pub valueOf : List ℕ → ℕ
-valueOf ds = foldl (λ (n d : ℕ). n * 10 + (d - 48)) 0 ds
+abbrev pub decimalValue : List ℕ → ℕ
+decimalValue ds = foldl (λ (n d : ℕ). n * 10 + (d - code "0")) 0 ds
 
-digit-value : (d : ℕ) → d < 10 → digitOf d - 48 ≡ d
+digit-value : (d : ℕ) → d < 10 → digitOf d - code "0" ≡ d
 digit-value d h = rw (lt-ltb d 10 h) (omega arith)
 
-value-more : (ds : List ℕ) (d : ℕ) → valueOf (ds ++ (d ∷ [])) ≡ valueOf ds * 10 + (d - 48)
-value-more ds d = foldl-append (λ (n d : ℕ). n * 10 + (d - 48)) 0 ds (d ∷ [])
+value-more : (ds : List ℕ) (d : ℕ) → decimalValue (ds ++ (d ∷ [])) ≡ decimalValue ds * 10 + (d - code "0")
+value-more ds d = foldl-append (λ (n d : ℕ). n * 10 + (d - code "0")) 0 ds (d ∷ [])
 
 by-ten : (P : Type 0) (n : ℕ) (b : Bool) → ltb n 10 ≡ b → (n < 10 → P) → (10 ≤ n → P) → P
 by-ten P n true e f g = f (ltb-true n 10 e)
 by-ten P n false e f g = g (ltb-false n 10 e)
 
-pub decimal-value : (k n : ℕ) → n < 10 ^ k → 0 < k → valueOf (decimalOf k n) ≡ n
+pub decimal-value : (k n : ℕ) → n < 10 ^ k → 0 < k → decimalValue (decimalOf k n) ≡ n
 decimal-value zero n h p = absurd (omega arith)
 decimal-value (suc k) n h p =
     let room : n < 10 ^ k * 10 = rw pow-suc at h in
-    by-ten (valueOf (decimalOf (suc k) n) ≡ n) n (ltb n 10) refl
+    by-ten (decimalValue (decimalOf (suc k) n) ≡ n) n (ltb n 10) refl
     (λ (s : n < 10). rw (decimal-short k n s) (omega (arith, digit-value n s)))
     (λ (s : 10 ≤ n).
     let more : 0 < k = ⊎-elim (λ (e : k ≡ 0). absurd (let small : n < 10 ^ 0 * 10 = rw e at room in omega arith)) (λ (q : 0 < k). q) (eq-zero-or-pos k) in
@@ -95,21 +96,17 @@ listing-bound answer report =
     (simp length-append (omega (arith, decimal-bound 20 (length report / reportSize), lines-bound (length report / reportSize) report)))
     (simp length-append (omega (arith, decimal-bound 10 (answer / 4294967296), decimal-bound 10 (answer % 4294967296))))
 
--- "runs 2", "entered 15 4 21 0008 0040" and "halted - 1 5 0002 0040"
+-- the report of the worked card
 pub worked-card :
     listingOf 24 (1 ∷ 15 ∷ 0 ∷ 4 ∷ 0 ∷ 0 ∷ 0 ∷ 21 ∷ 0 ∷ 8 ∷ 0 ∷ 64 ∷ 2 ∷ 255 ∷ 0 ∷ 1 ∷ 0 ∷ 0 ∷ 0 ∷ 5 ∷ 0 ∷ 2 ∷ 0 ∷ 64 ∷ [])
-    ≡ (114 ∷ 117 ∷ 110 ∷ 115 ∷ 32 ∷ 50 ∷ 10 ∷ [])
-    ++ (101 ∷ 110 ∷ 116 ∷ 101 ∷ 114 ∷ 101 ∷ 100 ∷ 32 ∷ 49 ∷ 53 ∷ 32 ∷ 52 ∷ 32 ∷ 50 ∷ 49 ∷ 32 ∷ 48 ∷ 48 ∷ 48 ∷ 56 ∷ 32 ∷ 48 ∷ 48 ∷ 52 ∷ 48 ∷ 10 ∷ [])
-    ++ (104 ∷ 97 ∷ 108 ∷ 116 ∷ 101 ∷ 100 ∷ 32 ∷ 45 ∷ 32 ∷ 49 ∷ 32 ∷ 53 ∷ 32 ∷ 48 ∷ 48 ∷ 48 ∷ 50 ∷ 32 ∷ 48 ∷ 48 ∷ 52 ∷ 48 ∷ 10 ∷ [])
+    ≡ ascii "runs 2\nentered 15 4 21 0008 0040\nhalted - 1 5 0002 0040\n"
 unfolding listingOf runsText linesOf lineOf endingText numberText decimalOf hexOf
 worked-card = refl
 
--- "runs 0"
-pub worked-empty : listingOf 0 [] ≡ 114 ∷ 117 ∷ 110 ∷ 115 ∷ 32 ∷ 48 ∷ 10 ∷ []
+pub worked-empty : listingOf 0 [] ≡ ascii "runs 0\n"
 unfolding listingOf runsText linesOf decimalOf
 worked-empty = refl
 
--- "refused 7 4095"
-pub worked-refusal : listingOf (7 * 4294967296 + 4095) [] ≡ 114 ∷ 101 ∷ 102 ∷ 117 ∷ 115 ∷ 101 ∷ 100 ∷ 32 ∷ 55 ∷ 32 ∷ 52 ∷ 48 ∷ 57 ∷ 53 ∷ 10 ∷ []
+pub worked-refusal : listingOf (7 * 4294967296 + 4095) [] ≡ ascii "refused 7 4095\n"
 unfolding listingOf refusedText decimalOf
 worked-refusal = refl

@@ -8,28 +8,21 @@ use lib.Dec.{eqb, ltb}
 use lib.ListN.{drop, getD, length, take}
 use Rattle.report.specs.Layout.{endingAt, flagAt, numberAt, pcAt, reportSize, statesAt, stepsAt}
 use Rattle.word.specs.Bytes.{wordFrom}
-use Rattle.listing.specs.Text.{decimalOf, hexOf}
+use Rattle.listing.specs.Text.{ascii, decimalOf, hexOf}
 
 abbrev pub space : List ℕ
-space = 32 ∷ []
+space = ascii " "
 
 abbrev pub newline : List ℕ
-newline = 10 ∷ []
+newline = ascii "\n"
 
 -- `spent`, `entered`, `halted` or `lost`, by "ending (0 spent, 1 entered, 2 halted, 3 lost)"
 unfoldable pub endingText : ℕ → List ℕ
-endingText n =
-    cond (eqb n 0)
-    (115 ∷ 112 ∷ 101 ∷ 110 ∷ 116 ∷ [])
-    (cond (eqb n 1)
-    (101 ∷ 110 ∷ 116 ∷ 101 ∷ 114 ∷ 101 ∷ 100 ∷ [])
-    (cond (eqb n 2)
-    (104 ∷ 97 ∷ 108 ∷ 116 ∷ 101 ∷ 100 ∷ [])
-    (108 ∷ 111 ∷ 115 ∷ 116 ∷ [])))
+endingText n = cond (eqb n 0) (ascii "spent") (cond (eqb n 1) (ascii "entered") (cond (eqb n 2) (ascii "halted") (ascii "lost")))
 
 -- "number or `-`", where FFh is no number
 unfoldable pub numberText : ℕ → List ℕ
-numberText n = cond (eqb n 255) (45 ∷ []) (decimalOf 3 n)
+numberText n = cond (eqb n 255) (ascii "-") (decimalOf 3 n)
 
 -- the line of a run, from the 12 bytes at the front of a report: a byte has at most 3 decimal digits, a word 5, 32 bits 10
 unfoldable pub lineOf : List ℕ → List ℕ
@@ -54,11 +47,11 @@ linesOf (suc n) r = lineOf r ++ linesOf n (drop reportSize r)
 
 -- `runs N`; 64 bits have at most 20 decimal digits
 unfoldable pub runsText : ℕ → List ℕ
-runsText n = 114 ∷ 117 ∷ 110 ∷ 115 ∷ 32 ∷ decimalOf 20 n ++ newline
+runsText n = ascii "runs " ++ (decimalOf 20 n ++ newline)
 
 -- `refused N P`
 unfoldable pub refusedText : ℕ → ℕ → List ℕ
-refusedText n p = (114 ∷ 101 ∷ 102 ∷ 117 ∷ 115 ∷ 101 ∷ 100 ∷ 32 ∷ []) ++ (decimalOf 10 n ++ (space ++ (decimalOf 10 p ++ newline)))
+refusedText n p = ascii "refused " ++ (decimalOf 10 n ++ (space ++ (decimalOf 10 p ++ newline)))
 
 -- the listing of a call's answer (a refusal × 2^32 + P, or no refusal) and of the part of the report that it filled
 unfoldable pub listingOf : ℕ → List ℕ → List ℕ

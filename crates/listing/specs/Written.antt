@@ -7,6 +7,6 @@ use lib.ListN.{length}
 use lib.Seq.{sets}
 
 -- `piece` written to `before` from `from` on, cut where that ends: `after` is the buffer then, and `to` is the cursor
-pub record Wrote (before after : List ℕ) (from to : ℕ) (piece : List ℕ) : Type 0 where
+pub record WroteText (before after : List ℕ) (from to : ℕ) (piece : List ℕ) : Type 0 where
   pub text : after ≡ sets before from piece
   pub cursor : to ≡ min (from + length piece) (length before)

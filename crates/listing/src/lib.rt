@@ -4,21 +4,21 @@ ghost use Prim.Native.Nat.{min, _/_, _≤_};
 ghost use lib.ListN.{length};
 ghost use Rattle.report.specs.Layout.{reportSize};
 ghost use Rattle.listing.specs.Listing as def;
-ghost use Rattle.listing.specs.Written.{Wrote};
+ghost use Rattle.listing.specs.Written.{WroteText};
 use line::put_line;
 use report::REPORT;
 use text::put;
-use text::put_bytes;
 use text::put_decimal;
+use text::put_text;
 
 mod line;
 mod text;
 
 // How many runs a report tells of, in a line.
 fn put_runs(text: &mut [u8], runs: u64) -> usize
-    ensures { λ r. ⌜ Wrote (now (text .entry)) (now (text .exit)) 0 r (def.runsText runs) ⌝ }
+    ensures { λ r. ⌜ WroteText (now (text .entry)) (now (text .exit)) 0 r (def.runsText runs) ⌝ }
 {
-    let mut at = put_bytes(text, 0, b"runs ");
+    let mut at = put_text(text, 0, b"runs ");
     at = put_decimal(text, at, 20, runs);
     put(text, at, b'\n')
 }
@@ -26,7 +26,7 @@ fn put_runs(text: &mut [u8], runs: u64) -> usize
 // A line for each run of a report.
 fn put_lines(text: &mut [u8], from: usize, report: &[u8]) -> usize
     requires { ⌜ from ≤ length (now text) ⌝ }
-    ensures { λ r. ⌜ Wrote (now (text .entry)) (now (text .exit)) from r (def.linesOf (length (now (report .entry)) / reportSize) (now (report .entry))) ⌝ }
+    ensures { λ r. ⌜ WroteText (now (text .entry)) (now (text .exit)) from r (def.linesOf (length (now (report .entry)) / reportSize) (now (report .entry))) ⌝ }
 {
     let mut at = from;
     let mut i = 0;
@@ -40,9 +40,9 @@ fn put_lines(text: &mut [u8], from: usize, report: &[u8]) -> usize
 
 // Why a card is refused, and where.
 fn put_refused(text: &mut [u8], number: u64, place: u64) -> usize
-    ensures { λ r. ⌜ Wrote (now (text .entry)) (now (text .exit)) 0 r (def.refusedText number place) ⌝ }
+    ensures { λ r. ⌜ WroteText (now (text .entry)) (now (text .exit)) 0 r (def.refusedText number place) ⌝ }
 {
-    let mut at = put_bytes(text, 0, b"refused ");
+    let mut at = put_text(text, 0, b"refused ");
     at = put_decimal(text, at, 10, number);
     at = put(text, at, b' ');
     at = put_decimal(text, at, 10, place);

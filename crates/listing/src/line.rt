@@ -6,11 +6,11 @@ ghost use Rattle.report.specs.Layout.{endingAt, flagAt, numberAt, pcAt, reportS
 ghost use Rattle.word.specs.Bytes.{wordFrom};
 ghost use Rattle.listing.specs.Listing as def;
 ghost use Rattle.listing.specs.Text.{decimalOf, hexOf};
-ghost use Rattle.listing.specs.Written.{Wrote};
+ghost use Rattle.listing.specs.Written.{WroteText};
 use crate::text::put;
-use crate::text::put_bytes;
 use crate::text::put_decimal;
 use crate::text::put_hex;
+use crate::text::put_text;
 use report::ENDING;
 use report::FLAG;
 use report::NUMBER;
@@ -21,20 +21,20 @@ use word::word_from;
 
 fn put_ending(text: &mut [u8], at: usize, ending: u8) -> usize
     requires { ⌜ at ≤ length (now text) ⌝ }
-    ensures { λ r. ⌜ Wrote (now (text .entry)) (now (text .exit)) at r (def.endingText ending) ⌝ }
+    ensures { λ r. ⌜ WroteText (now (text .entry)) (now (text .exit)) at r (def.endingText ending) ⌝ }
 {
     match ending {
-        0 => put_bytes(text, at, b"spent"),
-        1 => put_bytes(text, at, b"entered"),
-        2 => put_bytes(text, at, b"halted"),
-        _ => put_bytes(text, at, b"lost"),
+        0 => put_text(text, at, b"spent"),
+        1 => put_text(text, at, b"entered"),
+        2 => put_text(text, at, b"halted"),
+        _ => put_text(text, at, b"lost"),
     }
 }
 
 // The number entered, or `-` where there is none.
 fn put_number(text: &mut [u8], at: usize, number: u8) -> usize
     requires { ⌜ at ≤ length (now text) ⌝ }
-    ensures { λ r. ⌜ Wrote (now (text .entry)) (now (text .exit)) at r (def.numberText number) ⌝ }
+    ensures { λ r. ⌜ WroteText (now (text .entry)) (now (text .exit)) at r (def.numberText number) ⌝ }
 {
     if number == 255 {
         put(text, at, b'-')
@@ -44,9 +44,9 @@ fn put_number(text: &mut [u8], at: usize, number: u8) -> usize
 }
 
 // How the run at the front of a report ended.
-fn put_end(text: &mut [u8], from: usize, report: &[u8]) -> usize
+fn put_outcome(text: &mut [u8], from: usize, report: &[u8]) -> usize
     requires { ⌜ (from ≤ length (now text)) × (reportSize ≤ length (now report)) ⌝ }
-    ensures { λ r. ⌜ Wrote (now (text .entry)) (now (text .exit)) from r (def.endingText (getD (now (report .entry)) endingAt 0) ++ (def.space ++ (def.numberText (getD (now (report .entry)) numberAt 0) ++ def.space))) ⌝ }
+    ensures { λ r. ⌜ WroteText (now (text .entry)) (now (text .exit)) from r (def.endingText (getD (now (report .entry)) endingAt 0) ++ (def.space ++ (def.numberText (getD (now (report .entry)) numberAt 0) ++ def.space))) ⌝ }
 {
     let mut at = put_ending(text, from, report[ENDING]);
     at = put(text, at, b' ');
@@ -57,7 +57,7 @@ fn put_end(text: &mut [u8], from: usize, report: &[u8]) -> usize
 // Its steps and states.
 fn put_counts(text: &mut [u8], from: usize, report: &[u8]) -> usize
     requires { ⌜ (from ≤ length (now text)) × (reportSize ≤ length (now report)) ⌝ }
-    ensures { λ r. ⌜ Wrote (now (text .entry)) (now (text .exit)) from r (decimalOf 5 (wordFrom (now (report .entry)) stepsAt) ++ (def.space ++ (decimalOf 10 (wordFrom (now (report .entry)) statesAt * 65536 + wordFrom (now (report .entry)) (statesAt + 2)) ++ def.space))) ⌝ }
+    ensures { λ r. ⌜ WroteText (now (text .entry)) (now (text .exit)) from r (decimalOf 5 (wordFrom (now (report .entry)) stepsAt) ++ (def.space ++ (decimalOf 10 (wordFrom (now (report .entry)) statesAt * 65536 + wordFrom (now (report .entry)) (statesAt + 2)) ++ def.space))) ⌝ }
 {
     let steps = word_from(report, STEPS);
     let high = word_from(report, STATES);
@@ -71,7 +71,7 @@ fn put_counts(text: &mut [u8], from: usize, report: &[u8]) -> usize
 // Its PC and FLAG, which end the line.
 fn put_registers(text: &mut [u8], from: usize, report: &[u8]) -> usize
     requires { ⌜ (from ≤ length (now text)) × (reportSize ≤ length (now report)) ⌝ }
-    ensures { λ r. ⌜ Wrote (now (text .entry)) (now (text .exit)) from r (hexOf (wordFrom (now (report .entry)) pcAt) ++ (def.space ++ (hexOf (wordFrom (now (report .entry)) flagAt) ++ def.newline))) ⌝ }
+    ensures { λ r. ⌜ WroteText (now (text .entry)) (now (text .exit)) from r (hexOf (wordFrom (now (report .entry)) pcAt) ++ (def.space ++ (hexOf (wordFrom (now (report .entry)) flagAt) ++ def.newline))) ⌝ }
 {
     let pc = word_from(report, PC);
     let flag = word_from(report, FLAG);
@@ -84,9 +84,9 @@ fn put_registers(text: &mut [u8], from: usize, report: &[u8]) -> usize
 // The line of that run.
 pub fn put_line(text: &mut [u8], from: usize, report: &[u8]) -> usize
     requires { ⌜ (from ≤ length (now text)) × (reportSize ≤ length (now report)) ⌝ }
-    ensures { λ r. ⌜ Wrote (now (text .entry)) (now (text .exit)) from r (def.lineOf (now (report .entry))) ⌝ }
+    ensures { λ r. ⌜ WroteText (now (text .entry)) (now (text .exit)) from r (def.lineOf (now (report .entry))) ⌝ }
 {
-    let mut at = put_end(text, from, report);
+    let mut at = put_outcome(text, from, report);
     at = put_counts(text, at, report);
     put_registers(text, at, report)
 }

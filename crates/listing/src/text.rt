@@ -4,12 +4,12 @@ ghost use mathlib.Core.Path.{_≡_};
 ghost use Prim.Native.Nat.{_<_, _≤_};
 ghost use lib.ListN.{length};
 ghost use Rattle.listing.specs.Text as def;
-ghost use Rattle.listing.specs.Written.{Wrote};
+ghost use Rattle.listing.specs.Written.{WroteText};
 
 // A byte, where there is room for it.
 pub fn put(text: &mut [u8], at: usize, b: u8) -> usize
     requires { ⌜ at ≤ length (now text) ⌝ }
-    ensures { λ r. ⌜ Wrote (now (text .entry)) (now (text .exit)) at r (b ∷ []) ⌝ }
+    ensures { λ r. ⌜ WroteText (now (text .entry)) (now (text .exit)) at r (b ∷ []) ⌝ }
 {
     if at < text.len() {
         text[at] = b;
@@ -20,9 +20,9 @@ pub fn put(text: &mut [u8], at: usize, b: u8) -> usize
 }
 
 // Bytes, as many as there is room for.
-pub fn put_bytes(text: &mut [u8], from: usize, bytes: &[u8]) -> usize
+pub fn put_text(text: &mut [u8], from: usize, bytes: &[u8]) -> usize
     requires { ⌜ from ≤ length (now text) ⌝ }
-    ensures { λ r. ⌜ Wrote (now (text .entry)) (now (text .exit)) from r (now (bytes .entry)) ⌝ }
+    ensures { λ r. ⌜ WroteText (now (text .entry)) (now (text .exit)) from r (now (bytes .entry)) ⌝ }
 {
     let mut at = from;
     let mut i = 0;
@@ -38,13 +38,13 @@ fn digit(d: u8) -> u8
     requires { ⌜ d < 16 ⌝ }
     ensures { λ r. ⌜ r ≡ def.digitOf d ⌝ }
 {
-    if d < 10 { 48 + d } else { 55 + d }
+    if d < 10 { b'0' + d } else { b'A' + (d - 10) }
 }
 
 // The decimal digits of a number that has at most `k`.
 pub fn put_decimal(text: &mut [u8], at: usize, k: usize, n: u64) -> usize
     requires { ⌜ at ≤ length (now text) ⌝ }
-    ensures { λ r. ⌜ Wrote (now (text .entry)) (now (text .exit)) at r (def.decimalOf k n) ⌝ }
+    ensures { λ r. ⌜ WroteText (now (text .entry)) (now (text .exit)) at r (def.decimalOf k n) ⌝ }
 {
     if k == 0 {
         return at;
@@ -59,7 +59,7 @@ pub fn put_decimal(text: &mut [u8], at: usize, k: usize, n: u64) -> usize
 // Four hexadecimal digits.
 pub fn put_hex(text: &mut [u8], at: usize, w: u16) -> usize
     requires { ⌜ at ≤ length (now text) ⌝ }
-    ensures { λ r. ⌜ Wrote (now (text .entry)) (now (text .exit)) at r (def.hexOf w) ⌝ }
+    ensures { λ r. ⌜ WroteText (now (text .entry)) (now (text .exit)) at r (def.hexOf w) ⌝ }
 {
     let digits = [
         digit((w / 4096 % 16) as u8),
@@ -67,5 +67,5 @@ pub fn put_hex(text: &mut [u8], at: usize, w: u16) -> usize
         digit((w / 16 % 16) as u8),
         digit((w % 16) as u8),
     ];
-    put_bytes(text, at, &digits)
+    put_text(text, at, &digits)
 }

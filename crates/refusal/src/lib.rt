@@ -1,9 +1,9 @@
 // Refusals: why a call is refused, and what it then answers.
-mod answering;
+mod answer;
 
-pub use answering::and_then;
-pub use answering::answer_of;
-pub use answering::report_fits;
+pub use answer::and_then;
+pub use answer::answer_of;
+pub use answer::report_fits;
 
 // Why a call is refused, in the order of the tests.
 pub enum Cause {

@@ -8,7 +8,7 @@ use native.Mathlib.Omega.{arith}
 use borrow.Author.Tests.{eq-eqb, eqb-true, lt-ltb}
 use lib.ListN.{getD, length}
 use mir.Val.{boolByte}
-use Rattle.image.specs.Decode.{entriesFrom, stateFrom}
+use Rattle.image.specs.Decode.{tlbEntriesFrom, stateFrom}
 use Rattle.image.specs.Image.{entryBytes, imageOf}
 use Rattle.image.specs.Layout.{imageSize, tlbAt}
 use Rattle.image.specs.Valid.{allZeros, flagGood, goodImage, pendingGood, zerosGood}
@@ -24,7 +24,7 @@ use Rattle.word.specs.Bytes.{wordBytes}
 use Rattle.word.specs.Cases.{both, rest, this}
 use Rattle.word.specs.Word.{bit}
 use Rattle.roundtrip.specs.Images.{Fields, fields}
-use Rattle.roundtrip.specs.Statement.{Bytes, Each, GoodState, Word, Zeros}
+use Rattle.roundtrip.specs.Statement.{Bytes, Each, GoodEncodes, GoodState, Word, Zeros}
 
 -- ---- the image of a good state
 
@@ -90,7 +90,7 @@ zeros-good : (e : ℕ) → Zeros e → zerosGood (e / 256 % 256) ≡ true
 unfolding zerosGood
 zeros-good e h = eq-eqb (e / 256 % 256 / 32 % 4) 0 (omega arith)
 
-pub good-encodes : (st : State) → GoodState st → goodImage (imageOf st) ≡ true
+pub good-encodes : GoodEncodes
 unfolding goodImage imageOf wordBytes entryBytes allZeros
 good-encodes st g = subst (λ (s : State). goodImage (imageOf s) ≡ true) (spelled-out st g) good
   where
@@ -108,7 +108,7 @@ good-encodes st g = subst (λ (s : State). goodImage (imageOf s) ≡ true) (spel
 
 -- ---- the state of a good image
 
-zeros-from : (b : List ℕ) → Bytes b → (n at : ℕ) → allZeros b at n ≡ true → Each Zeros (entriesFrom b at n)
+zeros-from : (b : List ℕ) → Bytes b → (n at : ℕ) → allZeros b at n ≡ true → Each Zeros (tlbEntriesFrom b at n)
 unfolding allZeros zerosGood
 zeros-from b small zero at h k = refl
 zeros-from b small (suc n) at h zero =

@@ -21,7 +21,7 @@ use Rattle.machine.specs.declared.Condition.the-variants.{Halted, Lost, Running
 use Rattle.word.specs.Bytes.{byteFrom, wordBytes, wordFrom}
 use Rattle.word.specs.Cases.{rest, this}
 use Rattle.word.specs.Word.{bit, isSet}
-use Rattle.roundtrip.specs.Statement.{Bytes}
+use Rattle.roundtrip.specs.Statement.{Bytes, Encoded}
 
 -- ---- the tests of an image
 
@@ -113,7 +113,7 @@ flag-back w h g =
 
 -- ---- the image
 
-pub encoded : (b : List ℕ) → length b ≡ imageSize → Bytes b → goodImage b ≡ true → imageOf (stateFrom b) ≡ b
+pub encoded : Encoded
 unfolding imageOf stateFrom wordBytes entryBytes
 encoded b long small g =
     let f : Fields b = fields b g in

@@ -8,7 +8,7 @@ use Prim.Native.Nat.{ℕ, suc, zero, _+_, _*_, _/_, _%_, _<_}
 use native.Mathlib.Omega.{arith}
 use lib.Dec.{eqb}
 use mir.Val.{boolByte}
-use Rattle.image.specs.Decode.{conditionFrom, entriesFrom, stateFrom}
+use Rattle.image.specs.Decode.{conditionFrom, tlbEntriesFrom, stateFrom}
 use Rattle.image.specs.Image.{entryBytes, imageOf}
 use Rattle.image.specs.Layout.{inputAt, missedAt, outputAt, pcAt, regsAt, sspAt, tlbAt, uspAt, violationAt}
 use Rattle.machine.specs.Answers.{conditionNumber}
@@ -19,7 +19,7 @@ use Rattle.machine.specs.declared.State.{State}
 use Rattle.word.specs.Bytes.{wordBytes, wordFrom, wordsFrom}
 use Rattle.roundtrip.specs.Each.{each-append, each-cons}
 use Rattle.roundtrip.specs.Good.{bit-small, condition-small, flag-bits, spelled-out, spelledOut, word-back}
-use Rattle.roundtrip.specs.Statement.{Byte, Bytes, Each, EntryFits, GoodState, Ranged, Word}
+use Rattle.roundtrip.specs.Statement.{Byte, Bytes, Decoded, Each, EntryFits, GoodState, Ranged, Word}
 
 -- ---- the state of an image
 
@@ -32,7 +32,7 @@ module _ (b : List ℕ) (small : Bytes b) where
   words-from (suc n) at zero = word-from at
   words-from (suc n) at (suc k) = words-from n (at + 2) k
 
-  entries-from : (n at : ℕ) → Each EntryFits (entriesFrom b at n)
+  entries-from : (n at : ℕ) → Each EntryFits (tlbEntriesFrom b at n)
   entries-from zero at k = omega arith
   entries-from (suc n) at zero = omega (arith, small at, small (at + 1), small (at + 2))
   entries-from (suc n) at (suc k) = entries-from n (at + 3) k
@@ -104,7 +104,7 @@ condition-back Running = refl
 condition-back Halted = refl
 condition-back Lost = refl
 
-pub decoded : (st : State) → GoodState st → Ranged st → stateFrom (imageOf st) ≡ st
+pub decoded : Decoded
 unfolding stateFrom imageOf wordBytes entryBytes
 decoded st g r = subst (λ (s : State). stateFrom (imageOf s) ≡ s) (spelled-out st g) same
   where

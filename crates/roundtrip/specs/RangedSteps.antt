@@ -35,7 +35,7 @@ use Rattle.word.specs.declared.alu.Alu.{Alu}
 use Rattle.roundtrip.specs.Each.{each-set}
 use Rattle.roundtrip.specs.Fits.{OperationFits, PlanFits, StoreFits, mark-ranged, plan-fits, word-either, word-fits}
 use Rattle.roundtrip.specs.Good.{flag-bits}
-use Rattle.roundtrip.specs.Statement.{Byte, Bytes, Each, EntryFits, EventFits, GoodState, Ranged, Word}
+use Rattle.roundtrip.specs.Statement.{Byte, Bytes, Each, EntryFits, EventFits, GoodState, Ranged, StepEvent, Word}
 use Rattle.roundtrip.specs.Steps.{plan-good}
 
 -- ---- numbers that an instruction replaces
@@ -200,5 +200,5 @@ module _ (st : State) (m : List ℕ) (g : GoodState st) (r : Ranged st) (b : Byt
   pub step-ranged : Ranged ((stepOf st m) .state) × Bytes ((stepOf st m) .memory)
   step-ranged = (step-fits .state, step-fits .memory)
 
-  pub step-event : EventFits ((stepOf st m) .event)
-  step-event = step-fits .event
+pub step-event : StepEvent
+step-event st m g r b = step-fits st m g r b .event

@@ -15,20 +15,18 @@ use Rattle.machine.specs.StepLaws.{run-keeps}
 use Rattle.machine.specs.declared.State.{State}
 use Rattle.roundtrip.specs.Good.{good-decoded, good-encodes}
 use Rattle.roundtrip.specs.RangedSteps.{step-ranged}
-use Rattle.roundtrip.specs.Statement.{Bytes, GoodState, Ranged}
+use Rattle.roundtrip.specs.Statement.{Bytes, GoodState, Ranged, RunGood, RunImage, RunRanged}
 use Rattle.roundtrip.specs.Steps.{step-good}
 
-pub run-good : (n : ℕ) (st : State) (m : List ℕ) → GoodState st → GoodState ((runOf n st m) .state)
+pub run-good : RunGood
 run-good = run-keeps (λ (s : State) (l : List ℕ). GoodState s) step-good
 
-pub run-ranged :
-    (n : ℕ) (st : State) (m : List ℕ) → GoodState st → Ranged st → Bytes m → Ranged ((runOf n st m) .state) × Bytes ((runOf n st m) .memory)
+pub run-ranged : RunRanged
 run-ranged n st m g r b =
     run-keeps (λ (s : State) (l : List ℕ). GoodState s × (Ranged s × Bytes l))
     (λ s l h. (step-good s l (h .0), step-ranged s l (h .0) (h .1 .0) (h .1 .1))) n st m (g, (r, b)) .1
 
-pub run-image :
-    (n : ℕ) (b m : List ℕ) → Bytes b → goodImage b ≡ true → goodImage (imageOf ((runOf n (stateFrom b) m) .state)) ≡ true
+pub run-image : RunImage
 run-image n b m small g = good-encodes _ (run-good n (stateFrom b) m (good-decoded b small g))
 
 pub run-memory-long : (n : ℕ) (st : State) (m : List ℕ) → length ((runOf n st m) .memory) ≡ length m

@@ -1,20 +1,16 @@
--- States and their images: which states have a good image, and which fit the fields of one. Over these definitions and over `goodImage`,
--- `stateFrom` and `imageOf` of `image`, `stepOf` and `runOf` of `machine`, these hold:
---
--- `encoded`: the state of a good image of 68 bytes has that image.
--- `decoded`: the image of a good and ranged state is that of no other: it decodes to the state itself.
--- `good-decoded`, `ranged-decoded`: the state of a good image of bytes is good, and that of any bytes is ranged.
--- `good-encodes`, `image-bytes`, `image-long`: the image of a good state is good, of 68 elements, and of bytes if the state is ranged too.
--- `step-good`, `run-good`: a step and a run from a good state lead to a good one.
--- `step-ranged`, `run-ranged`: from a good and ranged state, and a memory of bytes, they lead to a ranged one and a memory of bytes.
--- `step-event`: and the numbers that such a step tells fit the report.
--- `run-image`: from the state of a good image a run leads to a state whose image is good.
--- `run-memory-long`: a run keeps the length of the memory.
+-- States and their images: which states have a good image, and which fit the fields of one.
 -- Assumes nothing.
+use mathlib.Core.Bool.{true}
 use mathlib.Core.List.{List}
 use mathlib.Core.Path.{_≡_}
 use Prim.Native.Nat.{ℕ, _/_, _%_, _<_}
 use lib.ListN.{getD, length}
+use Rattle.image.specs.Decode.{stateFrom}
+use Rattle.image.specs.Image.{imageOf}
+use Rattle.image.specs.Layout.{imageSize}
+use Rattle.image.specs.Valid.{goodImage}
+use Rattle.machine.specs.Run.{runOf}
+use Rattle.machine.specs.Step.{stepOf}
 use Rattle.machine.specs.declared.Event.{Event}
 use Rattle.machine.specs.declared.Event.the-variants as event
 use Rattle.machine.specs.declared.State.{State}
@@ -67,3 +63,34 @@ EventFits (event.Executed cost) = Unit {0}
 EventFits (event.Entered number pc flag) = Byte number × Word pc × Byte flag
 EventFits event.Halted = Unit {0}
 EventFits event.Lost = Unit {0}
+
+-- ---- the theorems
+
+-- `encoded`: the state of a good image has that image
+abbrev pub Encoded : Type 0
+Encoded = (b : List ℕ) → length b ≡ imageSize → Bytes b → goodImage b ≡ true → imageOf (stateFrom b) ≡ b
+
+-- `decoded`: the image of a good and ranged state decodes to the state itself
+abbrev pub Decoded : Type 0
+Decoded = (st : State) → GoodState st → Ranged st → stateFrom (imageOf st) ≡ st
+
+-- `good-encodes`: the image of a good state is good
+abbrev pub GoodEncodes : Type 0
+GoodEncodes = (st : State) → GoodState st → goodImage (imageOf st) ≡ true
+
+-- `run-good`: a run from a good state leads to a good one
+abbrev pub RunGood : Type 0
+RunGood = (n : ℕ) (st : State) (m : List ℕ) → GoodState st → GoodState ((runOf n st m) .state)
+
+-- `run-ranged`: from a good and ranged state, and a memory of bytes, it leads to a ranged one and a memory of bytes
+abbrev pub RunRanged : Type 0
+RunRanged =
+    (n : ℕ) (st : State) (m : List ℕ) → GoodState st → Ranged st → Bytes m → Ranged ((runOf n st m) .state) × Bytes ((runOf n st m) .memory)
+
+-- `run-image`: from the state of a good image it leads to a state whose image is good
+abbrev pub RunImage : Type 0
+RunImage = (n : ℕ) (b m : List ℕ) → Bytes b → goodImage b ≡ true → goodImage (imageOf ((runOf n (stateFrom b) m) .state)) ≡ true
+
+-- `step-event`: the numbers that a step from a good and ranged state tells fit the report
+abbrev pub StepEvent : Type 0
+StepEvent = (st : State) (m : List ℕ) → GoodState st → Ranged st → Bytes m → EventFits ((stepOf st m) .event)

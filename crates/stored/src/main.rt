@@ -4,8 +4,8 @@
 ghost use Prim.Native.Nat.{_+_, _≤_};
 ghost use lib.ListN.{length};
 ghost use Rattle.image.specs.Layout.{imageSize};
+use image::FLAG;
 use image::IMAGE;
-use image::layout::FLAG;
 
 fn least(a: usize, b: usize) -> usize
     ensures { λ r. ⌜ r ≤ a ⌝ }
@@ -71,7 +71,7 @@ fn run_all(cases: &[u8]) {
 fn main() {
     let mut cases = [0u8; 65536];
     let input = input::read_input(&mut cases);
-    if !input.complete {
+    if !input.complete() {
         return;
     }
     let count = input.count;

@@ -27,8 +27,8 @@ fn validate(memory: usize, image: &[u8], report: usize) -> Validity
     )
 }
 
-// A run on buffers that were tested.
-fn run_tested(memory: &mut [u8], image: &mut [u8], allowance: u16, report: &mut [u8])
+// A run on buffers that are valid.
+fn run_valid(memory: &mut [u8], image: &mut [u8], allowance: u16, report: &mut [u8])
     requires { ⌜ (length (now memory) ≡ 65536) × (length (now image) ≡ imageSize) × (reportSize ≤ length (now report)) ⌝ }
     ensures memory { λ _. ⌜ now (memory .exit) ≡ (runOf allowance (stateFrom (now (image .entry))) (now (memory .entry))) .memory ⌝ }
     ensures image { λ _. ⌜ now (image .exit) ≡ imageOf ((runOf allowance (stateFrom (now (image .entry))) (now (memory .entry))) .state) ⌝ }
@@ -52,7 +52,7 @@ fn run_tested(memory: &mut [u8], image: &mut [u8], allowance: u16, report: &mut 
 }
 
 // How a run of no step ends.
-fn ending_at_rest(condition: Condition) -> Ending
+fn stopped_ending(condition: Condition) -> Ending
     ensures { λ r. ⌜ r ≡ stoppedEnding condition ⌝ }
 {
     match condition {
@@ -62,8 +62,8 @@ fn ending_at_rest(condition: Condition) -> Ending
     }
 }
 
-// A view of an image that was tested.
-fn view_tested(image: &[u8], report: &mut [u8])
+// A view of an image that is valid.
+fn view_valid(image: &[u8], report: &mut [u8])
     requires { ⌜ (length (now image) ≡ imageSize) × (reportSize ≤ length (now report)) ⌝ }
     ensures { λ _. ⌜ now (report .exit) ≡ reportOf (stoppedEnding ((stateFrom (now (image .entry))) .condition)) ((stateFrom (now (image .entry))) .pc) (flagOf (stateFrom (now (image .entry)))) 0 0 ++ drop reportSize (now (report .entry)) ⌝ }
 {
@@ -72,7 +72,7 @@ fn view_tested(image: &[u8], report: &mut [u8])
     let flags = state.flags;
     report::write_report(
         report,
-        ending_at_rest(condition),
+        stopped_ending(condition),
         state.pc,
         flags.word(),
         0,
@@ -95,7 +95,7 @@ pub extern "C" fn tac_run(
     match validate(memory.len(), image, report.len()) {
         Validity::Refused(refusal) => refusal::answer_of(refusal),
         Validity::Good => {
-            run_tested(memory, image, allowance, report);
+            run_valid(memory, image, allowance, report);
             REPORT as u64
         }
     }
@@ -126,7 +126,7 @@ pub extern "C" fn tac_view(memory: &[u8], image: &[u8], report: &mut [u8]) -> u6
     match validate(memory.len(), image, report.len()) {
         Validity::Refused(refusal) => refusal::answer_of(refusal),
         Validity::Good => {
-            view_tested(image, report);
+            view_valid(image, report);
             REPORT as u64
         }
     }

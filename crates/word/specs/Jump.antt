@@ -1,8 +1,9 @@
 -- Jump conditions. Document 01, "Instruction words": "Jump conditions by Rd".
 -- Assumes nothing.
-use mathlib.Core.Bool.{Bool, Bool·beq, cond, false, not, true, _||_}
-use Prim.Native.Nat.{ℕ, _-_}
-use lib.Dec.{eqb, ltb}
+use mathlib.Core.Bool.{Bool, Bool·beq, false, not, true, _||_}
+use mathlib.Core.List.{List, [], _∷_}
+use Prim.Native.Nat.{ℕ}
+use lib.ListN.{getD}
 use Rattle.word.specs.declared.jump.Test.{Test}
 use Rattle.word.specs.declared.jump.Test.the-variants.{Fails, Holds, Undefined}
 
@@ -14,26 +15,37 @@ testOf false = Fails
 abbrev pub less : Bool → Bool → Bool
 less v s = not (Bool·beq s v)
 
--- "0 Z, 1 C, 2 S, 3 V"
-abbrev pub flagTest : ℕ → Bool → Bool → Bool → Bool → Bool
-flagTest code v c s z = cond (eqb code 0) z (cond (eqb code 1) c (cond (eqb code 2) s v))
+-- The conditions in the order of their numbers: "0 Z, 1 C, 2 S, 3 V, 4 not(Z or S≠V), 5 S=V, 6 Z or S≠V, 7 S≠V, 8-Bh the opposites of 0-3,
+-- Ch not(Z or C), Eh Z or C, Fh always; Dh is undefined".
+abbrev pub conditions : Bool → Bool → Bool → Bool → List Test
+conditions v c s z =
+    testOf z
+    ∷ testOf c
+    ∷ testOf s
+    ∷ testOf v
+    ∷ testOf (not (z || less v s))
+    ∷ testOf (Bool·beq s v)
+    ∷ testOf (z || less v s)
+    ∷ testOf (less v s)
+    ∷ testOf (not z)
+    ∷ testOf (not c)
+    ∷ testOf (not s)
+    ∷ testOf (not v)
+    ∷ testOf (not (z || c))
+    ∷ Undefined
+    ∷ testOf (z || c)
+    ∷ Holds
+    ∷ []
 
--- "4 not(Z or S≠V), 5 S=V, 6 Z or S≠V, 7 S≠V"
-abbrev pub signedTest : ℕ → Bool → Bool → Bool → Bool
-signedTest code v s z =
-    cond (eqb code 4) (not (z || less v s))
-    (cond (eqb code 5) (Bool·beq s v)
-    (cond (eqb code 6) (z || less v s)
-    (less v s)))
-
--- "8-Bh the opposites of 0-3, Ch not(Z or C), Eh Z or C, Fh always; Dh is undefined". A number past Fh is no condition, and is undefined too.
+-- A number past Fh is no condition, and is undefined too.
 unfoldable pub conditionOf : ℕ → Bool → Bool → Bool → Bool → Test
-conditionOf code v c s z =
-    cond (eqb code 12) (testOf (not (z || c)))
-    (cond (eqb code 13) Undefined
-    (cond (eqb code 14) (testOf (z || c))
-    (cond (eqb code 15) Holds
-    (cond (ltb code 4) (testOf (flagTest code v c s z))
-    (cond (ltb code 8) (testOf (signedTest code v s z))
-    (cond (ltb code 12) (testOf (not (flagTest (code - 8) v c s z)))
-    Undefined))))))
+conditionOf code v c s z = getD (conditions v c s z) code Undefined
+
+abbrev pub isUndefined : Test → Bool
+isUndefined Undefined = true
+isUndefined Holds = false
+isUndefined Fails = false
+
+-- Whether a number is no condition, whatever the flags are.
+unfoldable pub conditionUndefined : ℕ → Bool
+conditionUndefined code = isUndefined (conditionOf code false false false false)

@@ -1,6 +1,7 @@
 -- Laws of the definitions: which number a word or a field is, that each result is a word, and what each condition says.
 -- Assumes nothing.
-use mathlib.Core.Bool.{Bool, cond, false, not, true, _||_}
+use mathlib.Core.Bool.{Bool, cond, false, not, true}
+use mathlib.Core.List.{List, [], map, _++_, _∷_}
 use mathlib.Core.Logic.{_⊎_, inl, inr, ⊎-elim}
 use mathlib.Core.Path.{_≡_, refl, ap, sym, _∙_}
 use Prim.Native.Nat.{ℕ, _-_, _/_, _%_, _^_, _≤_, _<_}
@@ -8,13 +9,14 @@ use native.Mathlib.Nat.{div-le-self, lt-of-le-of-lt, mod-le}
 use native.Mathlib.Omega.{arith}
 use borrow.Author.Tests.{le-ltb, lt-ltb, ltb-false, ltb-true, ne-eqb}
 use lib.Bits.{and-le-l, or-lt, xor-lt}
-use lib.Dec.{eqb, lit<, lit≤, ltb}
+use lib.Dec.{eqb, ltb}
 use lib.IntN.{ℤ, negsuc, pos}
+use lib.ListN.{List·getD-append, List·getD-eq-default, List·getD-map, getD, getD-replicate, replicate}
 use lib.Signed.{mag, mag-shr, shrZ}
 use mir.Syntax.{w16}
 use mir.ValLaws.{ofZ-fits, toZ-fits}
 use Rattle.word.specs.Alu.{addOf, addsOf, andOf, divOf, modOf, mulOf, orOf, places, shlOf, shraOf, shrlOf, subOf, xorOf}
-use Rattle.word.specs.Jump.{conditionOf, flagTest, signedTest, testOf}
+use Rattle.word.specs.Jump.{conditionOf, conditionUndefined, conditions, isUndefined, testOf}
 use Rattle.word.specs.Signed.{signed, signed4, word}
 use Rattle.word.specs.Word.{wrap}
 use Rattle.word.specs.declared.jump.Test.the-variants.{Undefined}
@@ -117,64 +119,71 @@ pub shrlOf-fits : (a b : ℕ) → a < 65536 → (shrlOf a b) .value < 65536
 unfolding shrlOf
 shrlOf-fits a b h = lt-of-le-of-lt (div-le-self a (2 ^ places b)) h
 
--- conditions 0 to 3, 4 to 7 and 8 to 11, and the numbers past them all
-module _ (code : ℕ) (v c s z : Bool) where
-  apart : (code < 12) ⊎ (16 ≤ code) → (k : ℕ) → 12 ≤ k → k < 16 → eqb code k ≡ false
-  apart h k low high = ne-eqb code k (λ e. ⊎-elim (λ l. omega arith) (λ l. omega arith) h)
+opposite : (a b : Bool) → testOf b ≡ testOf a → testOf (not b) ≡ testOf (not a)
+opposite true true e = refl
+opposite false false e = refl
+opposite true false e = sym e
+opposite false true e = sym e
 
-  -- none of the numbers from 12 to 15
-  ranged :
-      (code < 12) ⊎ (16 ≤ code) → conditionOf code v c s z ≡
-      cond (ltb code 4) (testOf (flagTest code v c s z))
-      (cond (ltb code 8) (testOf (signedTest code v s z))
-      (cond (ltb code 12) (testOf (not (flagTest (code - 8) v c s z)))
-      Undefined))
-  unfolding conditionOf
-  ranged h =
-      simp (
-        apart h 12 (lit≤ tt) (lit< tt),
-        apart h 13 (lit≤ tt) (lit< tt),
-        apart h 14 (lit≤ tt) (lit< tt),
-        apart h 15 (lit≤ tt) (lit< tt),
-      )
+-- "8-Bh the opposites of 0-3"
+pub condition-opposite :
+    (code : ℕ) (v c s z b : Bool) → 8 ≤ code → code < 12 → testOf b ≡ conditionOf (code - 8) v c s z
+    → testOf (not b) ≡ conditionOf code v c s z
+unfolding conditionOf
+condition-opposite code v c s z b low high e =
+    ⊎-elim (λ k. at 8 z (omega arith) refl refl) (λ h9.
+    ⊎-elim (λ k. at 9 c (omega arith) refl refl) (λ h10.
+    ⊎-elim (λ k. at 10 s (omega arith) refl refl) (λ h11. at 11 v (omega arith) refl refl)
+    (order code 11)) (order code 10)) (order code 9)
+  where
+    at :
+        (k : ℕ) (a : Bool) → code ≡ k → conditionOf (k - 8) v c s z ≡ testOf a → conditionOf k v c s z ≡ testOf (not a)
+        → testOf (not b) ≡ conditionOf code v c s z
+    at k a q first second =
+        opposite a b (e ∙ ap (λ (n : ℕ). conditionOf (n - 8) v c s z) q ∙ first)
+        ∙ sym second
+        ∙ sym (ap (λ (n : ℕ). conditionOf n v c s z) q)
 
-  pub condition-flag : code < 4 → conditionOf code v c s z ≡ testOf (flagTest code v c s z)
-  condition-flag h = ranged (inl (omega arith)) ∙ simp (lt-ltb code 4)
+-- a number past Fh is no condition
+pub condition-past : (code : ℕ) (v c s z : Bool) → 16 ≤ code → conditionOf code v c s z ≡ Undefined
+unfolding conditionOf
+condition-past code v c s z h = List·getD-eq-default (conditions v c s z) Undefined h
 
-  pub condition-signed :
-      4 ≤ code → code < 8 → conditionOf code v c s z ≡ testOf (signedTest code v s z)
-  condition-signed h k = ranged (inl (omega arith)) ∙ simp (le-ltb code 4, lt-ltb code 8)
+answered : (b : Bool) → isUndefined (testOf b) ≡ false
+answered true = refl
+answered false = refl
 
-  pub condition-opposite :
-      8 ≤ code → code < 12
-      → conditionOf code v c s z ≡ testOf (not (flagTest (code - 8) v c s z))
-  condition-opposite h k =
-      ranged (inl k) ∙ simp (le-ltb code 4 (omega arith), le-ltb code 8, lt-ltb code 12)
+-- which of the sixteen are undefined
+undefineds : List Bool
+undefineds = replicate 13 false ++ (true ∷ false ∷ false ∷ [])
 
-  pub condition-past : 16 ≤ code → conditionOf code v c s z ≡ Undefined
-  condition-past h =
-      ranged (inr h)
-      ∙ simp (le-ltb code 4 (omega arith), le-ltb code 8 (omega arith), le-ltb code 12 (omega arith))
+undefineds-are : (v c s z : Bool) → map isUndefined (conditions v c s z) ≡ undefineds
+unfolding undefineds
+undefineds-are v c s z = simp answered
 
-answered : (b : Bool) → testOf b ≡ Undefined → ⊥
-answered true e = let z : _≡_ {A = ℕ} 0 1 = cc in omega arith
-answered false e = let z : _≡_ {A = ℕ} 0 1 = cc in omega arith
+condition-listed : (code : ℕ) (v c s z : Bool) → isUndefined (conditionOf code v c s z) ≡ getD undefineds code true
+unfolding conditionOf
+condition-listed code v c s z =
+    sym (List·getD-map isUndefined (conditions v c s z) code Undefined)
+    ∙ ap (λ (l : List Bool). getD l code true) (undefineds-are v c s z)
+
+-- whether a condition is undefined does not depend on the flags
+pub undefined-always : (code : ℕ) (v c s z : Bool) → isUndefined (conditionOf code v c s z) ≡ conditionUndefined code
+unfolding conditionUndefined
+undefined-always code v c s z = condition-listed code v c s z ∙ sym (condition-listed code false false false false)
 
 -- of the sixteen conditions only 13 is undefined
-pub condition-undefined :
-    (code : ℕ) (v c s z : Bool) → code < 16 → conditionOf code v c s z ≡ Undefined → code ≡ 13
-unfolding conditionOf
-condition-undefined code v c s z h e =
-    ⊎-elim (λ k. refused (flagTest code v c s z) (condition-flag code v c s z k)) (λ h4.
-    ⊎-elim (λ k. refused (signedTest code v s z) (condition-signed code v c s z h4 k)) (λ h8.
-    ⊎-elim (λ k. refused (not (flagTest (code - 8) v c s z)) (condition-opposite code v c s z h8 k)) (λ h12.
-    ⊎-elim (λ k. refused (not (z || c)) (at 12 (omega arith))) (λ h13.
-    ⊎-elim (λ k. omega arith) (λ h14.
-    ⊎-elim (λ k. refused (z || c) (at 14 (omega arith))) (λ h15. refused true (at 15 (omega arith)))
-    (order code 15)) (order code 14)) (order code 13)) (order code 12)) (order code 8)) (order code 4)
+pub undefined-thirteen : (code : ℕ) → code < 16 → conditionUndefined code ≡ eqb code 13
+unfolding conditionUndefined undefineds
+undefined-thirteen code h =
+    condition-listed code false false false false
+    ∙ ⊎-elim (λ k.
+    List·getD-append (replicate 13 false) (true ∷ false ∷ false ∷ []) true code k
+    ∙ getD-replicate 13 code false true k
+    ∙ sym (ne-eqb code 13 (λ e. omega arith))) (λ h13.
+    ⊎-elim (λ k. at 13 (omega arith) refl) (λ h14.
+    ⊎-elim (λ k. at 14 (omega arith) refl) (λ h15. at 15 (omega arith) refl)
+    (order code 15)) (order code 14)) (order code 13)
   where
-    refused : (b : Bool) → conditionOf code v c s z ≡ testOf b → code ≡ 13
-    refused b q = absurd (answered b (sym q ∙ e))
-
-    at : (k : ℕ) → code ≡ k → conditionOf code v c s z ≡ conditionOf k v c s z
-    at k q = rw q
+    at : (k : ℕ) → code ≡ k → getD undefineds k true ≡ eqb k 13 → getD undefineds code true ≡ eqb code 13
+    at k q e = rw q e

@@ -1,6 +1,7 @@
 // Jump conditions.
 ghost use mathlib.Core.Bool.{Bool};
 ghost use mathlib.Core.Path.{_≡_};
+ghost use Prim.Native.Nat.{_<_, _≤_};
 ghost use Rattle.word.specs.Jump as def;
 
 // What a condition says of the flags.
@@ -10,7 +11,7 @@ pub enum Test {
     Undefined,
 }
 
-fn answer(holds: bool) -> Test
+fn test_of(holds: bool) -> Test
     ensures { λ r. ⌜ r ≡ def.testOf holds ⌝ }
 {
     if holds { Test::Holds } else { Test::Fails }
@@ -18,7 +19,8 @@ fn answer(holds: bool) -> Test
 
 // Conditions 0 to 3: a flag.
 fn flag_test(code: u8, v: bool, c: bool, s: bool, z: bool) -> bool
-    ensures { λ r. ⌜ r ≡ def.flagTest code v c s z ⌝ }
+    requires { ⌜ code < 4 ⌝ }
+    ensures { λ r. ⌜ def.testOf r ≡ def.conditionOf code v c s z ⌝ }
 {
     match code {
         0 => z,
@@ -28,9 +30,10 @@ fn flag_test(code: u8, v: bool, c: bool, s: bool, z: bool) -> bool
     }
 }
 
-// Conditions 4 to 7: a comparison of signed numbers.
-fn signed_test(code: u8, v: bool, s: bool, z: bool) -> bool
-    ensures { λ r. ⌜ r ≡ def.signedTest code v s z ⌝ }
+// Conditions 4 to 7: a comparison of signed numbers. None of them asks for C.
+fn signed_test(code: u8, v: bool, c: bool, s: bool, z: bool) -> bool
+    requires { ⌜ (4 ≤ code) × (code < 8) ⌝ }
+    ensures { λ r. ⌜ def.testOf r ≡ def.conditionOf code v c s z ⌝ }
 {
     match code {
         4 => !(z | (s != v)),
@@ -45,13 +48,13 @@ pub fn condition(code: u8, v: bool, c: bool, s: bool, z: bool) -> Test
     ensures { λ r. ⌜ r ≡ def.conditionOf code v c s z ⌝ }
 {
     match code {
-        12 => answer(!(z | c)),
+        12 => test_of(!(z | c)),
         13 => Test::Undefined,
-        14 => answer(z | c),
+        14 => test_of(z | c),
         15 => Test::Holds,
-        0..=3 => answer(flag_test(code, v, c, s, z)),
-        4..=7 => answer(signed_test(code, v, s, z)),
-        8..=11 => answer(!flag_test(code - 8, v, c, s, z)),
+        0..=3 => test_of(flag_test(code, v, c, s, z)),
+        4..=7 => test_of(signed_test(code, v, c, s, z)),
+        8..=11 => test_of(!flag_test(code - 8, v, c, s, z)),
         _ => Test::Undefined,
     }
 }

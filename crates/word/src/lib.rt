@@ -26,7 +26,6 @@ pub use bytes::words_from;
 pub use jump::Test;
 pub use jump::condition;
 pub use signed::four_bits;
-pub use signed::to_signed;
 pub use signed::to_word;
 pub use word::minus;
 pub use word::plus;

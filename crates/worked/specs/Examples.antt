@@ -6,6 +6,7 @@ use Prim.Native.Nat.{ℕ}
 use lib.Count.{trailingZeros}
 use Rattle.decode.specs.Decode.{fieldsBad, firstOf, hasSecond, operandOf, usesRx}
 use Rattle.decode.specs.Instructions.{Opcode, addStates, costOf, divStates, eight, inModes, inRows, known, modeBits, opcodeOf, row, rows, shiftStates, single, statesAt, unknown}
+use Rattle.image.specs.Decode.{conditionFrom}
 use Rattle.machine.specs.Answers.{statesOf}
 use Rattle.machine.specs.Enter.{enterOf, pushed}
 use Rattle.machine.specs.Execute.{afterOperation, aluOf, bodyOf, eventOf}
@@ -31,7 +32,7 @@ abbrev pub all : List Row
 all = starred ++ misreadings ++ results ++ pages ++ entries
 
 pub examples : map stepped all ≡ map expected all
-unfolding starred misreadings results pages entries memoryOf stateOf valueOf valuesOf vectorsFrom
+unfolding starred misreadings results pages entries memoryOf stateOf conditionFrom valueOf valuesOf vectorsFrom
     addOf addsOf andOf divOf modOf mulOf orOf shlOf shraOf shrlOf subOf xorOf conditionOf signed4
     fieldsBad firstOf hasSecond operandOf usesRx addStates costOf divStates eight inModes inRows modeBits opcodeOf row rows shiftStates single statesAt
     enterOf pushed afterOperation aluOf bodyOf eventOf flagWord stored byEntry byTlb byteAccess lookupFrom lookupOf wordAccess transferOf

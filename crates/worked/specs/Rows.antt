@@ -5,11 +5,10 @@ use mathlib.Core.List.{List, [], _∷_, _++_}
 use Prim.Native.Nat.{suc, zero, ℕ, _*_, _+_}
 use lib.Dec.{eqb}
 use lib.ListN.{replicate, set}
+use Rattle.image.specs.Decode.{conditionFrom}
 use Rattle.machine.specs.Enter.{Outcome}
 use Rattle.status.specs.Flag.{flagsFrom}
 use Rattle.machine.specs.Step.{stepOf}
-use Rattle.machine.specs.declared.Condition.{Condition}
-use Rattle.machine.specs.declared.Condition.the-variants as condition
 use Rattle.machine.specs.declared.Event.{Event}
 use Rattle.machine.specs.declared.Event.the-variants.{Entered, Executed}
 use Rattle.machine.specs.declared.State.{State}
@@ -84,12 +83,6 @@ valueOf (k ≔ v ∷ xs) n = cond (eqb k n) v (valueOf xs n)
 unfoldable pub valuesOf : List Setting → ℕ → ℕ → List ℕ
 valuesOf xs k zero = []
 valuesOf xs k (suc n) = valueOf xs k ∷ valuesOf xs (k + 1) n
-
--- "condition (0 running, 1 halted, 2 lost)"
-abbrev pub conditionFrom : ℕ → Condition
-conditionFrom zero = condition.Running
-conditionFrom (suc zero) = condition.Halted
-conditionFrom (suc (suc n)) = condition.Lost
 
 -- the state with these values, and 0 in every other field
 unfoldable pub stateOf : List Setting → State

@@ -12,26 +12,29 @@ slice-aggregate-read-input c = search needs
 read-input-requires : tie.Need-read-input-requires
 read-input-requires c κs = search needs
 
+complete-requires : tie.Need-complete-requires
+complete-requires c κs = search needs
+
 returns : tie.Need-returns
 returns c = search needs
 
 array-share-prefix-card : tie.Need-array-share-prefix-card
 array-share-prefix-card c = search needs
 
-slice-aggregate-listed : tie.Need-slice-aggregate-listed
-slice-aggregate-listed c = sym (length-take-le _ (c .before .before .before .before .read-input .last .0) (search needs))
+slice-aggregate-list-card : tie.Need-slice-aggregate-list-card
+slice-aggregate-list-card c = sym (length-take-le _ (c .before .before .before .before .read-input .last .0) (search needs))
 
-slice-aggregate-listed-2 : tie.Need-slice-aggregate-listed-2
-slice-aggregate-listed-2 c = search needs
+slice-aggregate-list-card-2 : tie.Need-slice-aggregate-list-card-2
+slice-aggregate-list-card-2 c = search needs
 
-listed-requires : tie.Need-listed-requires
-listed-requires c κs = search needs
+list-card-requires : tie.Need-list-card-requires
+list-card-requires c κs = search needs
 
 array-share-prefix-text : tie.Need-array-share-prefix-text
 array-share-prefix-text c = search needs
 
 slice-aggregate-write-all : tie.Need-slice-aggregate-write-all
-slice-aggregate-write-all c = sym (length-take-le _ (c .before .before .listed .last .1 .0) (search needs))
+slice-aggregate-write-all c = sym (length-take-le _ (c .before .before .list-card .last .1 .0) (search needs))
 
 write-all-requires : tie.Need-write-all-requires
 write-all-requires c κs = search needs
@@ -45,11 +48,12 @@ main-spec =
     (tie.spec
     slice-aggregate-read-input
     read-input-requires
+    complete-requires
     returns
     array-share-prefix-card
-    slice-aggregate-listed
-    slice-aggregate-listed-2
-    listed-requires
+    slice-aggregate-list-card
+    slice-aggregate-list-card-2
+    list-card-requires
     array-share-prefix-text
     slice-aggregate-write-all
     write-all-requires

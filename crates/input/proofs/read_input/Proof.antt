@@ -1,128 +1,66 @@
--- `input::read_input` meets its contract.
+-- `input::read_input` meets its contract: at each turn the bytes that were read stand at the front, and those behind them are as before.
 -- Assumes nothing.
-use mathlib.Core.List.{List}
-use mathlib.Core.Path.{refl, _∙_, _≡_}
-use Prim.Native.Nat.{ℕ, _-_, _≤_}
+use Prim.Native.Nat.{_-_}
 use native.Mathlib.Omega.{arith}
-use lib.ListN.{length}
 use borrow.Author.Needs.{needs}
-use borrow.Rule.Slice.PartMut.{mid-len, midOf, putMid, same-len-mid}
+use lib.ListN.{length}
+use mir.Syntax.{w64}
+use mir.Val.{ofZ, toZ}
+use mir.ValLaws.{toZ-ofZ}
+use Rattle.input.specs.Input.{Front}
+use Rattle.input.proofs.Turns.{none, positive, read-ends, read-on}
 use Rattle.input.proofs.read_input.Statement.{statement}
 use Rattle.input.proofs.read_input.Tie as tie
 
--- the buffer, with what was read in the part from `count` on: it is as long as before
-abbrev filled : ℕ → List ℕ → List ℕ → List ℕ
-filled count buffer last = putMid count (length buffer - count) buffer last
-
-whole :
-    (count : ℕ) (buffer last : List ℕ) → length last ≡ length (midOf count (length buffer - count) buffer)
-    → length (filled count buffer last) ≡ length buffer
-whole count buffer last e = same-len-mid count (length buffer - count) buffer last e
-
 abbrev Inv-loop : tie.InvT-loop
-Inv-loop buffer₀ count₀ buffer count = (count ≤ length buffer) × (length buffer ≡ length buffer₀)
+Inv-loop buffer₀ count₀ last₀ buffer count last = Front buffer₀ buffer count
 
 abbrev μ-loop : tie.MeasureT-loop
-μ-loop buffer₀ count₀ buffer count = length buffer₀ - count
+μ-loop buffer₀ count₀ last₀ buffer count last = length buffer₀ - count
 
 loop-holds : tie.Need-loop-holds Inv-loop μ-loop
-loop-holds c = (omega arith, refl)
+loop-holds c = none _
 
-sub-read : tie.Need-sub-read Inv-loop μ-loop
-sub-read c = search needs
-
-part-read-start : tie.Need-part-read-start Inv-loop μ-loop
-part-read-start c = search needs
-
-part-read-end : tie.Need-part-read-end Inv-loop μ-loop
-part-read-end c = search needs
-
-read-requires : tie.Need-read-requires Inv-loop μ-loop
-read-requires c κs = search needs
-
-same-length : tie.Need-same-length Inv-loop μ-loop
-same-length c =
-    let at = c .before .before .before .before .before .before in
-    let read = c .before .before .before in
-    whole (at .loop .count) (at .loop .buffer) (read .read .last .1 .0) (read .read .kept .1 .0) ∙ at .loop .inv .1
-
-returns : tie.Need-returns Inv-loop μ-loop
-returns c = omega (arith, c .before .before .before .before .before .before .loop .inv .0, c .before .before .before .before .before .before .loop .inv .1)
-
-sub-count : tie.Need-sub-count Inv-loop μ-loop
-sub-count c = search needs
-
-part-count-start : tie.Need-part-count-start Inv-loop μ-loop
-part-count-start c = search needs
-
-part-count-end : tie.Need-part-count-end Inv-loop μ-loop
-part-count-end c = search needs
-
-count-requires : tie.Need-count-requires Inv-loop μ-loop
-count-requires c κs = search needs
-
-same-length-2 : tie.Need-same-length-2 Inv-loop μ-loop
-same-length-2 c =
-    let at = c .before .before .before .before .before .before .before .before .before .before in
-    let read = c .before .before .before .before .before .before .before in
-    whole (at .loop .count) (at .loop .buffer) (read .read .last .1 .0) (read .read .kept .1 .0) ∙ at .loop .inv .1
-
-returns-2 : tie.Need-returns-2 Inv-loop μ-loop
-returns-2 c =
-    let at = c .before .before .before .before .before .before .before .before .before .before in
-    omega (arith, at .loop .inv .0, at .loop .inv .1)
-
-add-count : tie.Need-add-count Inv-loop μ-loop
-add-count c =
-    let at = c .before .before .before .before .before .before .before .before .before .before in
-    let read = c .before .before .before .before .before .before .before in
-    let now = filled (at .loop .count) (at .loop .buffer) (read .read .last .1 .0) in
-    omega (
-      arith,
-      c .before .count .ensures .0 .0,
-      mid-len (at .loop .count) (length now) now (omega arith),
-      whole (at .loop .count) (at .loop .buffer) (read .read .last .1 .0) (read .read .kept .1 .0),
-      at .loop .inv .0,
-      at .loop .inv .1,
-    )
-
-loop-less : tie.Need-loop-less Inv-loop μ-loop
-loop-less c =
-    let at = c .before .before .before .before .before .before .before .before .before .before in
-    let read = c .before .before .before .before .before .before .before in
-    let now = filled (at .loop .count) (at .loop .buffer) (read .read .last .1 .0) in
-    omega (
-      arith,
-      c .before .count .ensures .0 .0,
-      mid-len (at .loop .count) (length now) now (omega arith),
-      whole (at .loop .count) (at .loop .buffer) (read .read .last .1 .0) (read .read .kept .1 .0),
-      at .loop .inv .0,
-      at .loop .inv .1,
-      c .if2 .left,
-      c .before .before .before .before .before .before .before .before .before .loop-test .taken,
-    )
+read-at-requires : tie.Need-read-at-requires Inv-loop μ-loop
+read-at-requires c κs = omega arith
 
 loop-again : tie.Need-loop-again Inv-loop μ-loop
 loop-again c =
-    let at = c .before .before .before .before .before .before .before .before .before .before in
-    let read = c .before .before .before .before .before .before .before in
-    let now = filled (at .loop .count) (at .loop .buffer) (read .read .last .1 .0) in (
-      omega (
-        arith,
-        c .before .count .ensures .0 .0,
-        mid-len (at .loop .count) (length now) now (omega arith),
-        whole (at .loop .count) (at .loop .buffer) (read .read .last .1 .0) (read .read .kept .1 .0),
-        at .loop .inv .0,
-        at .loop .inv .1,
-      ),
-      whole (at .loop .count) (at .loop .buffer) (read .read .last .1 .0) (read .read .kept .1 .0) ∙ at .loop .inv .1,
-    )
+    let turn = c .before .before .before in
+    let z = turn .read-at .result in
+    let same = toZ-ofZ w64 z (search needs) in
+    read-on (turn .before .before .before .loop .inv) (toZ w64 (ofZ w64 z)) (rw same (turn .read-at .ensures)) (c .if1 .left)
 
-same-length-3 : tie.Need-same-length-3 Inv-loop μ-loop
-same-length-3 c = c .before .loop .inv .1
+cast-count : tie.Need-cast-count Inv-loop μ-loop
+cast-count c =
+    let z = toZ w64 (ofZ w64 (c .before .before .before .read-at .result)) in
+    (positive z (c .if1 .left) .0, omega (arith, loop-again c .within))
 
-returns-3 : tie.Need-returns-3 Inv-loop μ-loop
-returns-3 c = omega (arith, c .before .loop .inv .0, c .before .loop .inv .1)
+add-count : tie.Need-add-count Inv-loop μ-loop
+add-count c = omega (arith, loop-again c .within)
+
+loop-less : tie.Need-loop-less Inv-loop μ-loop
+loop-less c =
+    let z = toZ w64 (ofZ w64 (c .before .before .before .read-at .result)) in
+    omega (arith, loop-again c .within, positive z (c .if1 .left) .1)
+
+same-length : tie.Need-same-length Inv-loop μ-loop
+same-length c = c .before .loop .inv .long
+
+returns : tie.Need-returns Inv-loop μ-loop
+returns c = record { front = c .before .loop .inv; ended = λ h. absurd (omega arith) }
+
+returns-2 : tie.Need-returns-2 Inv-loop μ-loop
+returns-2 c =
+    let turn = c .before .before .before in
+    let z = turn .read-at .result in
+    let front = turn .before .before .before .loop .inv in
+    let same = toZ-ofZ w64 z (search needs) in
+    let end = read-ends {after = turn .read-at .last .0} front (toZ w64 (ofZ w64 z)) (rw same (turn .read-at .ensures)) (c .if1 .taken) in
+    record { front = end .0; ended = λ h. end .1 }
+
+same-length-2 : tie.Need-same-length-2 Inv-loop μ-loop
+same-length-2 c = returns-2 c .front .long
 
 pub read-input-spec : {M : Type 1} → statement M
 read-input-spec =
@@ -131,20 +69,12 @@ read-input-spec =
     Inv-loop
     μ-loop
     loop-holds
-    sub-read
-    part-read-start
-    part-read-end
-    read-requires
-    same-length
-    returns
-    sub-count
-    part-count-start
-    part-count-end
-    count-requires
-    same-length-2
-    returns-2
+    read-at-requires
+    cast-count
     add-count
     loop-less
     loop-again
-    same-length-3
-    returns-3)
+    same-length
+    returns
+    same-length-2
+    returns-2)

@@ -6,11 +6,11 @@ use Rattle.listing.proofs.Wrote.{then}
 use Rattle.listing.proofs.put_runs.Statement.{statement}
 use Rattle.listing.proofs.put_runs.Tie as tie
 
-slice-aggregate-put-bytes : tie.Need-slice-aggregate-put-bytes
-slice-aggregate-put-bytes c = search needs
+slice-aggregate-put-text : tie.Need-slice-aggregate-put-text
+slice-aggregate-put-text c = search needs
 
-put-bytes-requires : tie.Need-put-bytes-requires
-put-bytes-requires c κs = search needs
+put-text-requires : tie.Need-put-text-requires
+put-text-requires c κs = search needs
 
 put-decimal-requires : tie.Need-put-decimal-requires
 put-decimal-requires c κs = search needs
@@ -25,14 +25,14 @@ returns : tie.Need-returns
 unfolding runsText
 returns c =
     let number = c .before .before .before .before .before .before in
-    then (number .before .before .before .before .put-bytes .ensures) (then (number .put-decimal .ensures) (c .before .before .put .ensures))
+    then (number .before .before .before .before .put-text .ensures) (then (number .put-decimal .ensures) (c .before .before .put .ensures))
 
 pub put-runs-spec : {M : Type 1} → statement M
 put-runs-spec =
     tie.close
     (tie.spec
-    slice-aggregate-put-bytes
-    put-bytes-requires
+    slice-aggregate-put-text
+    put-text-requires
     put-decimal-requires
     put-requires
     same-length

@@ -12,6 +12,9 @@ slice-aggregate-read-input c = search needs
 read-input-requires : tie.Need-read-input-requires
 read-input-requires c κs = search needs
 
+complete-requires : tie.Need-complete-requires
+complete-requires c κs = search needs
+
 returns : tie.Need-returns
 returns c = search needs
 
@@ -33,6 +36,7 @@ main-spec =
     (tie.spec
     slice-aggregate-read-input
     read-input-requires
+    complete-requires
     returns
     array-share-prefix-cases
     slice-aggregate-run-all

@@ -2,7 +2,7 @@
 -- Assumes nothing.
 use mathlib.Core.Path.{refl, sym, _∙_}
 use Rattle.tac.specs.Call.{runCall}
-use Rattle.tac.proofs.Tested.{passed}
+use Rattle.tac.proofs.Valid.{passed}
 use borrow.Author.Needs.{needs}
 use Rattle.tac.proofs.tac_run.Statement.{statement}
 use Rattle.tac.proofs.tac_run.Tie as tie
@@ -19,8 +19,8 @@ answer-of-requires c κs = search needs
 enum-told : tie.Need-enum-told
 enum-told c = search needs
 
-run-tested-requires : tie.Need-run-tested-requires
-run-tested-requires c κs =
+run-valid-requires : tie.Need-run-valid-requires
+run-valid-requires c κs =
     let p = passed _ _ _ (sym (c .before .before .before .before .before .validate .ensures) ∙ c .before .before .before .enum-told .given .1) in
     (p .memory, p .size, p .room)
 
@@ -44,8 +44,8 @@ same-length-4 c = search needs
 returns-2 : tie.Need-returns-2
 unfolding runCall
 returns-2 c =
-    let tested = c .before .before .before .before .before .before .before .before .before .before .before .before in
-    rw (← tested .validate .ensures, c .before .before .before .before .before .before .before .before .before .before .enum-told .given .1) (refl, c .before .before .before .before .before .before .run-tested .ensures)
+    let checked = c .before .before .before .before .before .before .before .before .before .before .before .before in
+    rw (← checked .validate .ensures, c .before .before .before .before .before .before .before .before .before .before .enum-told .given .1) (refl, c .before .before .before .before .before .before .run-valid .ensures)
 
 pub tac-run-spec : {M : Type 1} → statement M
 tac-run-spec =
@@ -55,7 +55,7 @@ tac-run-spec =
     enum-known-refusal
     answer-of-requires
     enum-told
-    run-tested-requires
+    run-valid-requires
     same-length
     returns
     same-length-2

@@ -3,7 +3,7 @@
 use mathlib.Core.Path.{refl, sym, _∙_}
 use Rattle.image.specs.Decode.{stateFrom}
 use Rattle.tac.specs.Call.{viewCall}
-use Rattle.tac.proofs.Tested.{no-step, passed}
+use Rattle.tac.proofs.Valid.{no-step, passed}
 use borrow.Author.Needs.{needs}
 use Rattle.tac.proofs.tac_view.Statement.{statement}
 use Rattle.tac.proofs.tac_view.Tie as tie
@@ -20,8 +20,8 @@ answer-of-requires c κs = search needs
 enum-told : tie.Need-enum-told
 enum-told c = search needs
 
-view-tested-requires : tie.Need-view-tested-requires
-view-tested-requires c κs =
+view-valid-requires : tie.Need-view-valid-requires
+view-valid-requires c κs =
     let p = passed _ _ _ (sym (c .before .before .before .validate .ensures) ∙ c .before .enum-told .given .1) in
     (p .size, p .room)
 
@@ -38,7 +38,7 @@ unfolding viewCall
 returns-2 c =
     let start = c .before .before .before .before .before .before .before .before .before .before in
     rw (← c .before .before .before .before .before .before .validate .ensures, c .before .before .before .before .enum-told .given .1, no-step (stateFrom (start .args .image .now)) (start .args .memory .now))
-    (refl, (refl, (refl, c .before .before .view-tested .ensures)))
+    (refl, (refl, (refl, c .before .before .view-valid .ensures)))
 
 pub tac-view-spec : {M : Type 1} → statement M
 tac-view-spec =
@@ -48,7 +48,7 @@ tac-view-spec =
     enum-known-refusal
     answer-of-requires
     enum-told
-    view-tested-requires
+    view-valid-requires
     returns
     same-length
     returns-2)

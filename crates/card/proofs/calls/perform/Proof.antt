@@ -27,8 +27,8 @@ good :
     Passed (length (start .memory .now)) (start .image .now) (start .card .now) (length (start .report .now))
 good c = passed _ _ _ _ (rw (c .before .before .validate .ensures) at (c .enum-told .given .1))
 
-execute-tested-requires : tie.Need-execute-tested-requires
-execute-tested-requires c κs =
+execute-valid-requires : tie.Need-execute-valid-requires
+execute-valid-requires c κs =
     let p = good (c .before .before .before) in
     let r = read-whole _ (p .read) in
     (p .memory, p .size, r .0, rw (r .1) at (p .room))
@@ -56,9 +56,9 @@ unfolding cardCall
 returns-2 c =
     let executed = c .before .before .before .before .before .before in
     let told = executed .before .before .before .before in
-    let tested = told .before .before .validate .ensures in
+    let checked = told .before .before .validate .ensures in
     let whole = read-whole _ (good told .read) .1 in
-    rw (rw tested at (told .enum-told .given .1), whole) (rw (tested, whole), executed .execute-tested .ensures)
+    rw (rw checked at (told .enum-told .given .1), whole) (rw (checked, whole), executed .execute-valid .ensures)
 
 pub perform-spec : {M : Type 1} → statement M
 perform-spec =
@@ -68,7 +68,7 @@ perform-spec =
     enum-known-validity
     answer-of-requires
     enum-told
-    execute-tested-requires
+    execute-valid-requires
     same-length
     returns
     same-length-2

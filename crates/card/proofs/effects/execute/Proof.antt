@@ -73,8 +73,8 @@ turn :
     Turn (at .before .before .before .before .before .args .card .now) (at .loop .at) (found .0) (found .1 .0)
 turn c = at-next _ _ (c .before .before .before .before .before .before .parse .ensures) (c .before .before .before .before .command .given .1)
 
-act-requires : tie.Need-act-requires Inv-loop μ-loop
-act-requires c κs =
+execute-command-requires : tie.Need-execute-command-requires Inv-loop μ-loop
+execute-command-requires c κs =
     let so-far = c .before .before .before .before .before .before .before .before in
     (so-far .loop .inv .size, room-next (so-far .loop .inv) (turn c), so-far .before .entries .ensures)
 
@@ -87,7 +87,7 @@ loop-again : tie.Need-loop-again Inv-loop μ-loop
 loop-again c =
     let done = c .before .before .before .before .before in
     let so-far = done .before .before .before .before .before .before .before .before .before in
-    goes-on (so-far .loop .inv) (turn (done .before)) (done .act .ensures) (done .act .kept .1 .1 .0)
+    goes-on (so-far .loop .inv) (turn (done .before)) (done .execute-command .ensures) (done .execute-command .kept .1 .1 .0)
 
 pub execute-spec : {M : Type 1} → statement M
 execute-spec =
@@ -110,6 +110,6 @@ execute-spec =
     same-length-4
     returns-2
     enum-known-command
-    act-requires
+    execute-command-requires
     loop-less
     loop-again)

@@ -4,18 +4,18 @@ use Prim.Native.Nat.{_-_}
 use native.Mathlib.Omega.{arith}
 use borrow.Author.Needs.{needs}
 use Rattle.image.specs.Layout.{tlbAt}
-use Rattle.image.proofs.Entries.{Tested, tested-all, tested-more, tested-none}
+use Rattle.image.proofs.Entries.{ZerosUpTo, up-to-all, up-to-more, up-to-none}
 use Rattle.image.proofs.validity.all_zeros.Statement.{statement}
 use Rattle.image.proofs.validity.all_zeros.Tie as tie
 
 abbrev Inv-loop : tie.InvT-loop
-Inv-loop image good₀ k₀ good k = Tested image tlbAt good k
+Inv-loop image good₀ k₀ good k = ZerosUpTo image tlbAt good k
 
 abbrev μ-loop : tie.MeasureT-loop
 μ-loop image good₀ k₀ good k = 8 - k
 
 loop-holds : tie.Need-loop-holds Inv-loop μ-loop
-loop-holds c = tested-none _ _
+loop-holds c = up-to-none _ _
 
 mul-zeros-good : tie.Need-mul-zeros-good Inv-loop μ-loop
 mul-zeros-good c = omega arith
@@ -39,10 +39,10 @@ loop-less : tie.Need-loop-less Inv-loop μ-loop
 loop-less c = omega arith
 
 loop-again : tie.Need-loop-again Inv-loop μ-loop
-loop-again c = tested-more (c .before .before .before .loop .inv) (omega arith) (c .zeros-good .ensures)
+loop-again c = up-to-more (c .before .before .before .loop .inv) (omega arith) (c .zeros-good .ensures)
 
 returns : tie.Need-returns Inv-loop μ-loop
-returns c = tested-all (c .before .loop .inv) (omega arith)
+returns c = up-to-all (c .before .loop .inv) (omega arith)
 
 pub all-zeros-spec : {M : Type 1} → statement M
 all-zeros-spec =

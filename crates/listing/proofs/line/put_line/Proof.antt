@@ -7,8 +7,8 @@ use Rattle.listing.proofs.Wrote.{then}
 use Rattle.listing.proofs.line.put_line.Statement.{statement}
 use Rattle.listing.proofs.line.put_line.Tie as tie
 
-put-end-requires : tie.Need-put-end-requires
-put-end-requires c κs = search needs
+put-outcome-requires : tie.Need-put-outcome-requires
+put-outcome-requires c κs = search needs
 
 put-counts-requires : tie.Need-put-counts-requires
 put-counts-requires c κs = search needs
@@ -23,10 +23,10 @@ returns : tie.Need-returns
 unfolding lineOf
 returns c =
     let counts = c .before .before .before .before .before .before in
-    let line = then (counts .before .before .before .before .put-end .ensures) (then (counts .put-counts .ensures) (c .before .before .put-registers .ensures)) in
+    let line = then (counts .before .before .before .before .put-outcome .ensures) (then (counts .put-counts .ensures) (c .before .before .put-registers .ensures)) in
     simp append-assoc at line
 
 pub put-line-spec : {M : Type 1} → statement M
 put-line-spec =
     tie.close
-    (tie.spec put-end-requires put-counts-requires put-registers-requires same-length returns)
+    (tie.spec put-outcome-requires put-counts-requires put-registers-requires same-length returns)

@@ -10,7 +10,7 @@ use borrow.Fn.Kinds.{In}
 use borrow.Fn.PlainCycle.{Measures, and, falls, is}
 use Rattle.listing.specs.Laws.{decimal-long, decimal-short}
 use Rattle.listing.specs.Text.{decimalOf, digitOf}
-use Rattle.listing.specs.Written.{Wrote}
+use Rattle.listing.specs.Written.{WroteText}
 use Rattle.listing.proofs.Wrote.{nothing, then}
 use Rattle.listing.proofs.text.+put_decimal.Lts-put_decimal as lts
 use Rattle.listing.proofs.text.+put_decimal.Tie.{close}
@@ -30,13 +30,13 @@ abbrev claims : ℕ → lts.Claims
 claims t = (digit.Asked, digit.Learnt, put.Asked, put.Learnt, and 1 kinds.ps (falls 1 kinds.ps _<_ μ t) reads.Pre, reads.Post)
 
 module _ {t₀ t₁ : List ℕ} {at₀ at₁ : ℕ} where
-  one-digit : (k n d : ℕ) → (k ≡ 0 → ⊥) → n < 10 → d ≡ digitOf n → Wrote t₀ t₁ at₀ at₁ (d ∷ []) → Wrote t₀ t₁ at₀ at₁ (decimalOf k n)
+  one-digit : (k n d : ℕ) → (k ≡ 0 → ⊥) → n < 10 → d ≡ digitOf n → WroteText t₀ t₁ at₀ at₁ (d ∷ []) → WroteText t₀ t₁ at₀ at₁ (decimalOf k n)
   one-digit zero n d p h e w = absurd (p refl)
   one-digit (suc k) n d p h e w = rw (decimal-short k n h, ← e) w
 
   one-more :
-      (k n d : ℕ) → (k ≡ 0 → ⊥) → 10 ≤ n → d ≡ digitOf (n % 10) → Wrote t₀ t₁ at₀ at₁ (decimalOf (k - 1) (n / 10) ++ (d ∷ []))
-      → Wrote t₀ t₁ at₀ at₁ (decimalOf k n)
+      (k n d : ℕ) → (k ≡ 0 → ⊥) → 10 ≤ n → d ≡ digitOf (n % 10) → WroteText t₀ t₁ at₀ at₁ (decimalOf (k - 1) (n / 10) ++ (d ∷ []))
+      → WroteText t₀ t₁ at₀ at₁ (decimalOf k n)
   one-more zero n d p h e w = absurd (p refl)
   one-more (suc k) n d p h e w = rw (decimal-long k n h, ← e) (rw sub-one at w)
 

@@ -29,11 +29,11 @@ cast-digit-4 c = search needs
 digit-requires-4 : tie.Need-digit-requires-4
 digit-requires-4 c κs = search needs
 
-slice-aggregate-put-bytes : tie.Need-slice-aggregate-put-bytes
-slice-aggregate-put-bytes c = search needs
+slice-aggregate-put-text : tie.Need-slice-aggregate-put-text
+slice-aggregate-put-text c = search needs
 
-put-bytes-requires : tie.Need-put-bytes-requires
-put-bytes-requires c κs = search needs
+put-text-requires : tie.Need-put-text-requires
+put-text-requires c κs = search needs
 
 same-length : tie.Need-same-length
 same-length c = search needs
@@ -43,7 +43,7 @@ unfolding hexOf
 returns c =
     let last = c .before .before .before .before .before in
     rw (last .before .before .before .digit .ensures, last .before .before .digit2 .ensures, last .before .digit3 .ensures, last .digit4 .ensures)
-    at (c .before .before .put-bytes .ensures)
+    at (c .before .before .put-text .ensures)
 
 pub put-hex-spec : {M : Type 1} → statement M
 put-hex-spec =
@@ -57,7 +57,7 @@ put-hex-spec =
     digit-requires-3
     cast-digit-4
     digit-requires-4
-    slice-aggregate-put-bytes
-    put-bytes-requires
+    slice-aggregate-put-text
+    put-text-requires
     same-length
     returns)

@@ -1,0 +1,84 @@
+-- `image::encoder::write_image` meets its contract.
+-- Assumes nothing.
+use mathlib.Core.List.{List, _++_}
+use mathlib.Core.Path.{sym, _∙_, _≡_}
+use Prim.Native.Nat.{ℕ, _+_}
+use native.Mathlib.Omega.{arith}
+use borrow.Author.Needs.{needs}
+use lib.ListN.{length, length-append}
+use lib.Seq.{sets}
+use Rattle.word.specs.ByteLaws.{laid-long, sets-all, sets-behind, words-laid}
+use Rattle.word.specs.Bytes.{wordBytes}
+use Rattle.machine.specs.declared.State.{State}
+use Rattle.image.specs.Image.{betweenOf, entryBytes, imageOf}
+use Rattle.image.specs.Layout.{imageSize, regsAt, sspAt, tlbAt}
+use Rattle.image.proofs.Entries.{entries-laid}
+use Rattle.image.proofs.encoder.write_image.Statement.{statement}
+use Rattle.image.proofs.encoder.write_image.Tie as tie
+
+-- registers, the fields between, and the TLB, one behind the other
+covered :
+    (old : List ℕ) (st : State) {one two three : List ℕ} → length old ≡ imageSize → length (st .regs) ≡ 13 → length (st .tlb) ≡ 8
+    → one ≡ sets old regsAt (wordBytes (st .regs)) → two ≡ sets one sspAt (betweenOf st) → three ≡ sets two tlbAt (entryBytes (st .tlb))
+    → three ≡ imageOf st
+unfolding imageOf wordBytes
+covered old st {one} {two} {three} long regs tlb p q r =
+    let a : List ℕ = wordBytes (st .regs) in
+    let b : List ℕ = betweenOf st in
+    let e : List ℕ = entryBytes (st .tlb) in
+    let la : length a ≡ 26 = laid-long words-laid (st .regs) ∙ omega arith in
+    let le : length e ≡ 24 = laid-long entries-laid (st .tlb) ∙ omega arith in
+    let lab : length (a ++ b) ≡ 44 = length-append a b ∙ omega arith in
+    sets-behind (a ++ b) e old tlbAt (sets-behind a b old sspAt p la q) lab r
+    ∙ sets-all ((a ++ b) ++ e) old (long ∙ sym (length-append (a ++ b) e ∙ omega arith))
+
+regs-long : (c : tie.Start) → length (c .args .state .regs) ≡ 13
+regs-long c = search needs
+
+tlb-long : (c : tie.Start) → length (c .args .state .tlb) ≡ 8
+tlb-long c = search needs
+
+slice-aggregate-put-words : tie.Need-slice-aggregate-put-words
+slice-aggregate-put-words c = search needs
+
+put-words-requires : tie.Need-put-words-requires
+put-words-requires c κs =
+    omega (arith, regs-long (c .before .before .before .before .before))
+
+put-between-requires : tie.Need-put-between-requires
+put-between-requires c κs = search needs
+
+slice-aggregate-put-entries : tie.Need-slice-aggregate-put-entries
+slice-aggregate-put-entries c = search needs
+
+put-entries-requires : tie.Need-put-entries-requires
+put-entries-requires c κs =
+    let mid = c .before .before .before .before in
+    let front = mid .before .before .before .before in
+    let long = tlb-long (front .before .before .before .before .before .before) in
+    omega (arith, mid .put-between .kept .0, front .put-words .kept .0)
+
+same-length : tie.Need-same-length
+same-length c = search needs
+
+returns : tie.Need-returns
+unfolding imageOf
+returns c =
+    let back = c .before .before in
+    let mid = back .before .before .before .before .before in
+    let front = mid .before .before .before .before in
+    let start = front .before .before .before .before .before .before in
+    covered (start .args .image .now) (start .args .state) (start .pre) (regs-long start) (tlb-long start)
+    (front .put-words .ensures) (mid .put-between .ensures) (back .put-entries .ensures)
+
+pub write-image-spec : {M : Type 1} → statement M
+write-image-spec =
+    tie.close
+    (tie.spec
+    slice-aggregate-put-words
+    put-words-requires
+    put-between-requires
+    slice-aggregate-put-entries
+    put-entries-requires
+    same-length
+    returns)
