@@ -9,6 +9,7 @@ use native.Mathlib.Omega.{arith}
 use borrow.Author.Tests.{eqb-true, le-ltb, lt-ltb, ne-eqb}
 use lib.Dec.{eqb, lit<}
 use lib.ListN.{getD}
+use Rattle.word.specs.Laws.{undefined-thirteen}
 use Rattle.word.specs.Word.{upper}
 use Rattle.decode.specs.Decode.{fieldsBad, firstIn, firstOf, hasSecond, rdBad, rdField, rxField, usesRx}
 use Rattle.decode.specs.Entry.{accessNumber, byNumber, entryOf, flowNumber, packed, packedRow, privilegeNumber, rdNumber, tableFrom, tableOf}
@@ -123,10 +124,10 @@ neither true false = refl
 neither false true = refl
 neither false false = refl
 
-rd-back : (u : RdUse) (n : ℕ) → (eqb n 15 && eqb (rdNumber u) 1) || (eqb n 13 && eqb (rdNumber u) 2) ≡ rdBad u n
-rd-back register n = only-left (eqb n 15) (eqb n 13)
-rd-back condition n = only-right (eqb n 15) (eqb n 13)
-rd-back unused n = neither (eqb n 15) (eqb n 13)
+rd-back : (u : RdUse) (n : ℕ) → n < 16 → (eqb n 15 && eqb (rdNumber u) 1) || (eqb n 13 && eqb (rdNumber u) 2) ≡ rdBad u n
+rd-back register n h = only-left (eqb n 15) (eqb n 13)
+rd-back condition n h = only-right (eqb n 15) (eqb n 13) ∙ sym (undefined-thirteen n h)
+rd-back unused n h = neither (eqb n 15) (eqb n 13)
 
 by-row : (r : Row) (m w : ℕ) → Small r m → firstIn (known r m) w ≡ firstEntry (packed (known r m)) (packedRow r) w
 unfolding fieldsBad
@@ -138,7 +139,7 @@ by-row r m w h =
     (access-small (r .access))
     (flow-small (r .flow)) in
     rw (b .some, b .number, b .mode, b .states, c .rd, c .privilege, c .access, c .flow)
-    (rw (rd-back (r .rd) (rdField w), privilege-back (r .privilege), access-back (r .access), flow-back (r .flow)))
+    (rw (rd-back (r .rd) (rdField w) (omega arith), privilege-back (r .privilege), access-back (r .access), flow-back (r .flow)))
 
 -- the entry of a row's number is the row's
 listed : Row → ℕ → Bool

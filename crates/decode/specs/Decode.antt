@@ -4,6 +4,7 @@ use mathlib.Core.Bool.{Bool, cond, false, _&&_, _||_}
 use Prim.Native.Nat.{ℕ, _%_, _/_}
 use lib.Dec.{eqb, ltb}
 use lib.IntN.{pos, _*ℤ_}
+use Rattle.word.specs.Jump.{conditionUndefined}
 use Rattle.word.specs.Signed.{signed4}
 use Rattle.word.specs.Word.{upper}
 use Rattle.decode.specs.Instructions.{Opcode, RdUse, Row, condition, costOf, known, opcodeOf, register, unknown, unused}
@@ -24,7 +25,7 @@ rxField w = w % 16
 -- "A used register field of 15 is undefined (H)." "Dh is undefined", of a jump's conditions. "Unused fields aren't looked at (H)."
 abbrev pub rdBad : RdUse → ℕ → Bool
 rdBad register n = eqb n 15
-rdBad condition n = eqb n 13
+rdBad condition n = conditionUndefined n
 rdBad unused n = false
 
 -- the last field is a register's in modes 1, 4, 6 and 7

@@ -3,4 +3,5 @@ pub mod Decode
 pub mod Entry
 pub mod Instructions
 pub mod Laws
+pub mod Mode
 pub mod Numbers

@@ -1,7 +1,10 @@
 // The operand, and the whole instruction.
 ghost use mathlib.Core.Path.{_≡_};
+ghost use Prim.Native.Nat.{min};
 ghost use lib.IntN.{pos, _*ℤ_};
 ghost use Rattle.decode.specs.Decode as def;
+ghost use Rattle.decode.specs.Instructions.{noOperand};
+ghost use Rattle.decode.specs.Mode.{modeNumber};
 ghost use Rattle.word.specs.Signed.{signed4};
 use crate::Instruction;
 use crate::Operand;
@@ -16,7 +19,8 @@ fn frame_offset(field: u16) -> i16
 
 // The operand in a mode, from the last field and the second word.
 pub fn operand_from(mode: u8, rx: u8, second: u16) -> Operand
-    ensures { λ r. ⌜ r ≡ def.operandOf mode rx second ⌝ }
+    ensures operand { λ r. ⌜ r ≡ def.operandOf mode rx second ⌝ }
+    ensures number { λ r. ⌜ modeNumber r ≡ min mode noOperand ⌝ }
 {
     match mode {
         0 => Operand::Direct(second),

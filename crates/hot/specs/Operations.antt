@@ -44,6 +44,7 @@ use Rattle.pages.specs.declared.Width.{Width}
 use Rattle.pages.specs.declared.Width.the-variants.{Byte, Word}
 use Rattle.word.specs.Alu.{places, subOf}
 use Rattle.word.specs.Jump.{conditionOf}
+use Rattle.word.specs.Laws.{undefined-thirteen}
 use Rattle.word.specs.Word.{minus, plus, upper}
 use Rattle.word.specs.declared.alu.Alu.{Alu}
 use Rattle.hot.specs.Fetch.{Grants, accessed, carriedOut, defined, did, one-word, readied}
@@ -78,7 +79,7 @@ fields-unused mode w e = rw e
 
 fields-condition : (mode w : ℕ) → (rdField w ≡ 13 → ⊥) → RxFine mode w → fieldsBad condition mode (rdField w) (rxField w) ≡ false
 unfolding fieldsBad
-fields-condition mode w n e = rw (ne-eqb (rdField w) 13 n, e)
+fields-condition mode w n e = rw (undefined-thirteen (rdField w) (omega arith), ne-eqb (rdField w) 13 n, e)
 
 -- an operation from ADD to SHRL but CMP
 module _ (st : State) (m : List ℕ) (rd held source port pc states : ℕ) where

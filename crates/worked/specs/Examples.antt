@@ -23,7 +23,7 @@ use Rattle.mmu.specs.Access.{byEntry, byTlb, byteAccess, wordAccess}
 use Rattle.mmu.specs.Lookup.{lookupFrom, lookupOf}
 use Rattle.mmu.specs.Memory.{stored}
 use Rattle.word.specs.Alu.{addOf, addsOf, andOf, divOf, modOf, mulOf, orOf, shlOf, shraOf, shrlOf, subOf, xorOf}
-use Rattle.word.specs.Jump.{conditionOf}
+use Rattle.word.specs.Jump.{conditionOf, conditionUndefined}
 use Rattle.word.specs.Signed.{signed4}
 use Rattle.worked.specs.Further.{entries, misreadings, pages, results}
 use Rattle.worked.specs.Rows.{Row, expected, memoryOf, starred, stateOf, stepped, valueOf, valuesOf, vectorsFrom}
@@ -33,7 +33,7 @@ all = starred ++ misreadings ++ results ++ pages ++ entries
 
 pub examples : map stepped all ≡ map expected all
 unfolding starred misreadings results pages entries memoryOf stateOf conditionFrom valueOf valuesOf vectorsFrom
-    addOf addsOf andOf divOf modOf mulOf orOf shlOf shraOf shrlOf subOf xorOf conditionOf signed4
+    addOf addsOf andOf divOf modOf mulOf orOf shlOf shraOf shrlOf subOf xorOf conditionOf conditionUndefined signed4
     fieldsBad firstOf hasSecond operandOf usesRx addStates costOf divStates eight inModes inRows modeBits opcodeOf row rows shiftStates single statesAt
     enterOf pushed afterOperation aluOf bodyOf eventOf flagWord stored byEntry byTlb byteAccess lookupFrom lookupOf wordAccess transferOf
     addressOf loadNeed needOf storeNeed valueStored endOf interruptIn planFetch planFirst planOf planOperand planSecond trailingZeros
