@@ -39,6 +39,7 @@ fn read_by(chunk: &mut [u8], buffer: &mut [u8], at: usize) -> isize
     got
 }
 
+// The same, with a chunk of its own.
 fn read_at(buffer: &mut [u8], at: usize) -> isize
     requires { ⌜ at ≤ length (now buffer) ⌝ }
     ensures { λ r. ⌜ ReadAt (now (buffer .entry)) at r (now (buffer .exit)) ⌝ }
@@ -47,7 +48,8 @@ fn read_at(buffer: &mut [u8], at: usize) -> isize
     read_by(&mut chunk, buffer, at)
 }
 
-// Reads until the input ends, a read fails or the buffer is full.
+// Reads until the input ends, a read fails or the buffer is full. Which bytes it read, no contract can say: the logic has no record of what a
+// call of the system gave.
 pub fn read_input(buffer: &mut [u8]) -> Input
     ensures { λ r. ⌜ ReadTo (now (buffer .entry)) (now (buffer .exit)) (r .count) (r .last) ⌝ }
 {

@@ -44,8 +44,10 @@ same-length-4 c = search needs
 returns-2 : tie.Need-returns-2
 unfolding runCall
 returns-2 c =
-    let checked = c .before .before .before .before .before .before .before .before .before .before .before .before in
-    rw (← checked .validate .ensures, c .before .before .before .before .before .before .before .before .before .before .enum-told .given .1) (refl, c .before .before .before .before .before .before .run-valid .ensures)
+    let ran = c .before .before .before .before .before .before in
+    let told = ran .before .before .before .before in
+    let checked = told .before .before in
+    rw (← checked .validate .ensures, told .enum-told .given .1) (refl, ran .run-valid .ensures)
 
 pub tac-run-spec : {M : Type 1} → statement M
 tac-run-spec =

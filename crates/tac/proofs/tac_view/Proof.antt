@@ -36,8 +36,10 @@ same-length c = search needs
 returns-2 : tie.Need-returns-2
 unfolding viewCall
 returns-2 c =
-    let start = c .before .before .before .before .before .before .before .before .before .before in
-    rw (← c .before .before .before .before .before .before .validate .ensures, c .before .before .before .before .enum-told .given .1, no-step (stateFrom (start .args .image .now)) (start .args .memory .now))
+    let told = c .before .before .before .before in
+    let checked = told .before .before in
+    let start = checked .before .before .before .before in
+    rw (← checked .validate .ensures, told .enum-told .given .1, no-step (stateFrom (start .args .image .now)) (start .args .memory .now))
     (refl, (refl, (refl, c .before .before .view-valid .ensures)))
 
 pub tac-view-spec : {M : Type 1} → statement M
