@@ -1,6 +1,5 @@
 -- `pages::access::operand_place` meets its contract.
 -- Assumes nothing.
-use mathlib.Core.Path.{sym, _≡_}
 use native.Mathlib.Omega.{arith}
 use borrow.Author.Needs.{needs}
 use Rattle.pages.specs.Maps.{some-bytes}

@@ -1,6 +1,5 @@
 -- `pages::access::read` meets its contract.
 -- Assumes nothing.
-use mathlib.Core.Path.{refl}
 use native.Mathlib.Omega.{arith}
 use borrow.Author.Needs.{needs}
 use Rattle.pages.proofs.access.read.Statement.{statement}

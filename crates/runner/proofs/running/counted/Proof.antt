@@ -91,12 +91,16 @@ returns-3 c =
     closed (at-end at (c .before .before .enum-told3 .given .1) (c .before .if1 .taken)) (c .finish3 .ensures) (at .steps) (at .states)
 
 step-requires : tie.Need-step-requires Inv-loop μ-loop
-step-requires c κs = (went (c .before .before .before .before .before .before .before .before .before) .size, c .before .before .before .before .before .before .before .before .before .before .before .before .before .pre .1)
+step-requires c κs =
+    let led = c .before .before .before .before .before .before .before .before .before in
+    (went led .size, led .before .before .before .before .pre .1)
 
 add-steps-2 : tie.Need-add-steps-2 Inv-loop μ-loop
 add-steps-2 c =
-    let at = went (c .before .before .before .before .before .before .before .before .before .before .before .before) in
-    omega (arith, at .steps, at .states, c .before .before .before .before .before .before .before .before .before .before .before .before .before .before .before .before .fits .allowance, c .before .before .before .before .if1 .left)
+    let test = c .before .before .before .before in
+    let led = test .before .before .before .before .before .before .before .before in
+    let at = went led in
+    omega (arith, at .steps, at .states, test .if1 .left, led .before .before .before .before .fits .allowance)
 
 states-of-requires : tie.Need-states-of-requires Inv-loop μ-loop
 states-of-requires c κs = search needs
@@ -106,13 +110,17 @@ cast-states c = search needs
 
 add-states-2 : tie.Need-add-states-2 Inv-loop μ-loop
 add-states-2 c =
-    let at = went (c .before .before .before .before .before .before .before .before .before .before .before .before .before) in
-    omega (arith, at .steps, at .states, c .before .before .before .before .before .before .before .before .before .before .before .before .before .before .before .before .before .fits .allowance, c .before .before .before .before .before .if1 .left, c .states-of .ok)
+    let test = c .before .before .before .before .before in
+    let led = test .before .before .before .before .before .before .before .before in
+    let at = went led in
+    omega (arith, at .steps, at .states, test .if1 .left, led .before .before .before .before .fits .allowance, c .states-of .ok)
 
 sub-spare : tie.Need-sub-spare Inv-loop μ-loop
 sub-spare c =
-    let at = went (c .before .before .before .before .before .before .before .before .before .before .before .before .before .before) in
-    omega (arith, at .steps, at .states, c .before .before .before .before .before .before .before .before .before .before .before .before .before .before .before .before .before .before .fits .allowance, c .before .before .before .before .before .before .if1 .left)
+    let test = c .before .before .before .before .before .before in
+    let led = test .before .before .before .before .before .before .before .before in
+    let at = went led in
+    omega (arith, at .steps, at .states, test .if1 .left, led .before .before .before .before .fits .allowance)
 
 enum-known-event : tie.Need-enum-known-event Inv-loop μ-loop
 enum-known-event c = search needs
@@ -121,29 +129,36 @@ finish-requires-4 : tie.Need-finish-requires-4 Inv-loop μ-loop
 finish-requires-4 c κs = search needs
 
 same-length-4 : tie.Need-same-length-4 Inv-loop μ-loop
-same-length-4 c = c .before .before .before .before .before .before .before .before .step .kept .1 .0 ∙ same-size (c .before .before .before .before .before .before .before .before .before .before .before .before .before .before .before .before .before .before)
+same-length-4 c =
+    let stepped = c .before .before .before .before .before .before .before .before in
+    stepped .step .kept .1 .0 ∙ same-size (stepped .before .before .before .before .before .before .before .before .before .before)
 
 returns-4 : tie.Need-returns-4 Inv-loop μ-loop
 returns-4 c =
-    let at = went (c .before .before .before .before .before .before .before .before .before .before .before .before .before .before .before .before .before .before) in
-    let more = c .before .before .before .before .before .before .before .before .before .before .if1 .left in
+    let stepped = c .before .before .before .before .before .before .before .before in
+    let test = stepped .before .before in
+    let at = went (test .before .before .before .before .before .before .before .before) in
+    let cost = c .before .before .before .before .before .states-of in
     closed
-    (at-entry at (c .before .before .before .before .before .before .before .before .before .before .before .enum-told3 .given .1) more (c .before .before .before .before .before .before .before .before .step .ensures) (c .before .before .before .before .before .states-of .ensures) (c .before .before .event .given .1))
+    (at-entry at (test .before .enum-told3 .given .1) (test .if1 .left) (stepped .step .ensures) (cost .ensures) (c .before .before .event .given .1))
     (c .finish4 .ensures)
-    (omega (arith, at .steps))
-    (omega (arith, at .states, c .before .before .before .before .before .states-of .ok))
+    (omega (arith, at .steps, test .if1 .left))
+    (omega (arith, at .states, cost .ok))
 
 loop-less : tie.Need-loop-less Inv-loop μ-loop
 loop-less c =
-    let at = went (c .before .before .before .before .before .before .before .before .before .before .before .before .before .before .before) in
-    omega (arith, at .steps, at .states, c .before .before .before .before .before .before .before .before .before .before .before .before .before .before .before .before .before .before .before .fits .allowance, c .before .before .before .before .before .before .before .if1 .left)
+    let test = c .before .before .before .before .before .before .before in
+    let led = test .before .before .before .before .before .before .before .before in
+    let at = went led in
+    omega (arith, at .steps, at .states, test .if1 .left, led .before .before .before .before .fits .allowance)
 
 loop-again : tie.Need-loop-again Inv-loop μ-loop
 loop-again c =
-    let at = went (c .before .before .before .before .before .before .before .before .before .before .before .before .before .before .before) in
+    let test = c .before .before .before .before .before .before .before in
+    let at = went (test .before .before .before .before .before .before .before .before) in
     let step′ = c .before .before .before .before .before .step in
     let cost = c .before .before .states-of in (
-      goes-on at (c .before .before .before .before .before .before .before .before .enum-told3 .given .1) (c .before .before .before .before .before .before .before .if1 .left) (step′ .ensures) (cost .ensures)
+      goes-on at (test .before .enum-told3 .given .1) (test .if1 .left) (step′ .ensures) (cost .ensures)
           (unentered (step′ .result .event) (c .match2 .keys2) (step′ .result .state) _ _ _ _) (step′ .kept .1 .0) (omega (arith, cost .ok)),
       omega arith,
     )

@@ -54,7 +54,9 @@ finish-requires : tie.Need-finish-requires Inv-loop μ-loop
 finish-requires c κs = search needs
 
 same-length : tie.Need-same-length Inv-loop μ-loop
-same-length c = c .before .before .before .before .before .before .before .counted .kept .1 .0 ∙ c .before .before .before .before .before .before .before .before .before .loop .inv .size ∙ sym (c .before .before .before .before .before .before .before .before .before .before .before .pre .0)
+same-length c =
+    let run = c .before .before .before .before .before .before .before in
+    run .counted .kept .1 .0 ∙ run .before .before .loop .inv .size ∙ sym (run .before .before .before .before .pre .0)
 
 returns : tie.Need-returns Inv-loop μ-loop
 returns c =
