@@ -12,7 +12,7 @@ use Rattle.decode.specs.Instructions.{costOf, eight, inModes, inRows, modeBits,
 use Rattle.image.specs.Decode.{conditionFrom, stateFrom}
 use Rattle.image.specs.Valid.{allZeros, flagGood, goodImage, machineValid, pendingGood, zerosGood}
 use Rattle.listing.specs.Listing.{endingText, lineOf, linesOf, listingOf, numberText, runsText}
-use Rattle.listing.specs.Text.{decimalOf, hexOf}
+use Rattle.listing.specs.Text.{ascii, decimalOf, hexOf}
 use Rattle.machine.specs.Enter.{enterOf, pushed}
 use Rattle.machine.specs.Execute.{afterOperation, bodyOf, eventOf}
 use Rattle.status.specs.Flag.{flagWord}
@@ -38,12 +38,8 @@ workedCard =
     ++ (0x01 ∷ 0x00 ∷ 0x00 ∷ 0xff ∷ [])
     ++ (0x04 ∷ 0x00 ∷ 0x02 ∷ [])
 
--- "runs 2", "entered 15 4 21 0008 0040" and "halted - 1 5 0002 0040"
 abbrev pub workedText : List ℕ
-workedText =
-    (114 ∷ 117 ∷ 110 ∷ 115 ∷ 32 ∷ 50 ∷ 10 ∷ [])
-    ++ (101 ∷ 110 ∷ 116 ∷ 101 ∷ 114 ∷ 101 ∷ 100 ∷ 32 ∷ 49 ∷ 53 ∷ 32 ∷ 52 ∷ 32 ∷ 50 ∷ 49 ∷ 32 ∷ 48 ∷ 48 ∷ 48 ∷ 56 ∷ 32 ∷ 48 ∷ 48 ∷ 52 ∷ 48 ∷ 10 ∷ [])
-    ++ (104 ∷ 97 ∷ 108 ∷ 116 ∷ 101 ∷ 100 ∷ 32 ∷ 45 ∷ 32 ∷ 49 ∷ 32 ∷ 53 ∷ 32 ∷ 48 ∷ 48 ∷ 48 ∷ 50 ∷ 32 ∷ 48 ∷ 48 ∷ 52 ∷ 48 ∷ 10 ∷ [])
+workedText = ascii "runs 2\n" ++ (ascii "entered 15 4 21 0008 0040\n" ++ ascii "halted - 1 5 0002 0040\n")
 
 pub worked-listing : benchOf workedCard ≡ workedText
 unfolding benchOf cardCall filledPart cardValid readAtMost readFrom readingOf runsIn commandOf goodOf operandsOf parsedOf effectOf executeOf withRegister

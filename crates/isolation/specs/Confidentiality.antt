@@ -48,7 +48,8 @@ use Rattle.mmu.specs.declared.Store.the-variants as store
 use Rattle.word.specs.Cases.{either}
 use Rattle.word.specs.Word.{joined, plus, upper}
 use Rattle.isolation.specs.Rights.{ByteIn, byte-in, on, rights-marked, user-after, word-in}
-use Rattle.isolation.specs.Statement.{Confidentiality, Indistinct, UserMode, atHandler, endingOf, hasRight, visible}
+use Rattle.isolation.specs.OneStep.{Confidentiality, Indistinct, endingOf}
+use Rattle.isolation.specs.Statement.{UserMode, atHandler, hasRight, visible}
 use Rattle.isolation.specs.Stores.{pushed-agree, stored-agree}
 
 -- ---- what is read

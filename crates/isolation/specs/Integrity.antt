@@ -57,7 +57,8 @@ use Rattle.mmu.specs.declared.Store.the-variants as store
 use Rattle.word.specs.Cases.{either}
 use Rattle.word.specs.Word.{plus}
 use Rattle.isolation.specs.Rights.{byte-in, on, rights-marked, word-in}
-use Rattle.isolation.specs.Statement.{Confined, Integrity, Keeps, SameRights, UserMode}
+use Rattle.isolation.specs.OneStep.{Confined, Integrity, Keeps, SameRights}
+use Rattle.isolation.specs.Statement.{UserMode}
 use Rattle.isolation.specs.Stores.{Spares, pushed-kept, pushed-long, spares-byte, spares-nothing, spares-word}
 
 -- ---- states that keep what an instruction keeps

@@ -23,7 +23,8 @@ use Rattle.report.specs.Report.{reportOf}
 use Rattle.word.specs.Word.{upper}
 use Rattle.isolation.specs.Confidentiality.{confidentiality}
 use Rattle.isolation.specs.Integrity.{integrity}
-use Rattle.isolation.specs.Statement.{Alike, Confined, Indistinct, Isolation, Keeps, KeepsBy, Shared, Spared, UserMode, atHandler, butHandler, endingOf}
+use Rattle.isolation.specs.OneStep.{Confined, Indistinct, Keeps, KeepsBy, endingOf}
+use Rattle.isolation.specs.Statement.{Alike, Isolation, Shared, Spared, UserMode, atHandler, butHandler}
 
 -- ---- two steps from one state
 

@@ -19,7 +19,8 @@ use Rattle.mmu.specs.declared.Access.the-variants.{At}
 use Rattle.mmu.specs.declared.Accessed.{Accessed}
 use Rattle.mmu.specs.declared.Right.{Right}
 use Rattle.word.specs.Word.{joined, lower, plus, upper}
-use Rattle.isolation.specs.Statement.{SameRights, UserMode, hasRight}
+use Rattle.isolation.specs.OneStep.{SameRights}
+use Rattle.isolation.specs.Statement.{UserMode, hasRight}
 
 -- ---- user mode
 

@@ -1,4 +1,4 @@
--- What the theorems of this crate say. Demand 3 is `Isolation`, about two runs; it rests on `Integrity` and `Confidentiality`, about one step.
+-- Demand 3: `Isolation`, about two runs.
 -- Assumes nothing.
 use mathlib.Core.Bool.{Bool, false, true, _&&_, _||_}
 use mathlib.Core.List.{List, [], _∷_}
@@ -8,16 +8,11 @@ use Prim.Native.Nat.{ℕ, _<_}
 use lib.Dec.{eqb}
 use lib.ListN.{getD, length}
 use Rattle.image.specs.Image.{imageOf}
-use Rattle.machine.specs.Enter.{Outcome, vectorOf}
+use Rattle.machine.specs.Enter.{vectorOf}
 use Rattle.machine.specs.Run.{Ran, runOf}
 use Rattle.machine.specs.State.{withPc}
-use Rattle.machine.specs.Step.{stepOf}
-use Rattle.machine.specs.declared.Condition.{Condition}
-use Rattle.machine.specs.declared.Condition.the-variants as condition
 use Rattle.machine.specs.declared.Ending.{Ending}
 use Rattle.machine.specs.declared.Ending.the-variants as ending
-use Rattle.machine.specs.declared.Event.{Event}
-use Rattle.machine.specs.declared.Event.the-variants as event
 use Rattle.machine.specs.declared.State.{State}
 use Rattle.mmu.specs.Entry.{frameIn, gives, valid}
 use Rattle.mmu.specs.Memory.{wordAt}
@@ -33,10 +28,6 @@ unfoldable pub hasRight : List ℕ → Right → ℕ → Bool
 hasRight [] right frame = false
 hasRight (entry ∷ entries) right frame =
     (valid entry && (eqb (frameIn entry) frame && gives right entry)) || hasRight entries right frame
-
--- the second TLB gives each frame the rights that the first gives it
-abbrev pub SameRights : List ℕ → List ℕ → Type 0
-SameRights tlb tlb′ = (right : Right) (frame : ℕ) → hasRight tlb′ right frame ≡ hasRight tlb right frame
 
 -- frames to which the TLB gives a read or an execute right
 abbrev pub visible : List ℕ → ℕ → Bool
@@ -55,13 +46,6 @@ pub record Alike (tlb m m′ : List ℕ) : Type 0 where
   pub same : (a : ℕ) → a < 65536 → visible tlb (upper a) ≡ true → getD m a 0 ≡ getD m′ a 0
 
 -- ---- kernel entries
-
--- how a run ends that ends after a step
-abbrev pub endingOf : Event → Ending
-endingOf (event.Executed cost) = ending.Spent
-endingOf (event.Entered number pc flag) = ending.Entered number pc flag
-endingOf event.Halted = ending.Halted
-endingOf event.Lost = ending.Lost
 
 -- "except the handler address loaded at a kernel entry": the state without PC after an entry, and whole otherwise
 abbrev pub butHandler : Ending → State → State
@@ -90,45 +74,6 @@ pushedAt ending.Lost ssp a = ⊥
 -- "every byte of a frame without write right is what it was at the start, save the four that a kernel entry pushes": m has come to be n
 abbrev pub Spared : State → Ending → List ℕ → List ℕ → Type 0
 Spared st x m n = (a : ℕ) → hasRight (st .tlb) Write (upper a) ≡ false → (getD n a 0 ≡ getD m a 0) ⊎ pushedAt x (st .ssp) a
-
--- ---- integrity: what a step in user mode may write, and what it keeps
-
--- P, SSP and the condition are these; I, the MMU and the rights that the TLB gives are as they were
-pub record Keeps (st : State) (p : Bool) (ssp : ℕ) (c : Condition) (s : State) : Type 0 where
-  pub privilege : s .flags .p ≡ p
-  pub stack : s .ssp ≡ ssp
-  pub condition : s .condition ≡ c
-  pub ports : s .flags .i ≡ st .flags .i
-  pub mmu : s .mmu ≡ st .mmu
-  pub rights : SameRights (st .tlb) (s .tlb)
-
--- an instruction keeps all of it, a loss all but the condition; a program never halts the machine
-abbrev pub KeepsBy : Event → State → State → Type 0
-KeepsBy (event.Executed cost) st s = Keeps st false (st .ssp) (st .condition) s
-KeepsBy (event.Entered number pc flag) st s = Keeps st true (minus (st .ssp) 4) (st .condition) s
-KeepsBy event.Halted st s = ⊥
-KeepsBy event.Lost st s = Keeps st false (st .ssp) condition.Lost s
-
-pub record Confined (st : State) (m : List ℕ) (o : Outcome) : Type 0 where
-  pub long : length (o .memory) ≡ length m
-  pub spared : Spared st (endingOf (o .event)) m (o .memory)
-  pub kept : KeepsBy (o .event) st (o .state)
-
-abbrev pub Integrity : Type 0
-Integrity = (st : State) (m : List ℕ) → UserMode st → Confined st m (stepOf st m)
-
--- ---- confidentiality: what a step in user mode may depend on
-
--- what two steps share that start in one state, on two memories
-pub record Indistinct (m m′ : List ℕ) (o o′ : Outcome) : Type 0 where
-  pub told : o .event ≡ o′ .event
-  pub state : butHandler (endingOf (o .event)) (o .state) ≡ butHandler (endingOf (o′ .event)) (o′ .state)
-  pub handler : atHandler (endingOf (o .event)) (o .state) (o .memory)
-  pub handler′ : atHandler (endingOf (o′ .event)) (o′ .state) (o′ .memory)
-  pub memory : (a : ℕ) → getD m a 0 ≡ getD m′ a 0 → getD (o .memory) a 0 ≡ getD (o′ .memory) a 0
-
-abbrev pub Confidentiality : Type 0
-Confidentiality = (st : State) (m m′ : List ℕ) → UserMode st → Alike (st .tlb) m m′ → Indistinct m m′ (stepOf st m) (stepOf st m′)
 
 -- ---- isolation: runs from a state in user mode
 

@@ -3,7 +3,8 @@
 use mathlib.Core.Bool.{Bool, cond, not, true, _&&_}
 use mathlib.Core.List.{List, [], append-assoc, flatten, map, _++_, _∷_}
 use mathlib.Core.Path.{ap, refl, sym, _∙_, _≡_}
-use Prim.Native.Nat.{suc, zero, ℕ, _%_, _*_, _+_, _/_, _<_}
+use Prim.Native.Char.{code}
+use Prim.Native.Nat.{suc, zero, ℕ, _%_, _*_, _+_, _-_, _/_, _<_}
 use native.Mathlib.Omega.{arith}
 use borrow.Author.Tests.{lt-ltb, ne-eqb, not-true}
 use lib.Dec.{eqb, ltb}
@@ -13,12 +14,12 @@ use Rattle.report.specs.Layout.{endingAt, flagAt, numberAt, pcAt, reportSize, s
 use Rattle.word.specs.Bytes.{wordFrom}
 use Rattle.word.specs.Cases.{both, either, rest, this}
 use Rattle.listing.specs.Listing.{endingText, lineOf, linesOf, listingOf, newline, numberText, runsText, space}
-use Rattle.listing.specs.Text.{decimalOf, digitOf, hexOf}
+use Rattle.listing.specs.Text.{ascii, decimalOf, digitOf, hexOf}
 
 -- ---- lines of a text
 
 abbrev pub isNewline : ℕ → Bool
-isNewline c = eqb c 10
+isNewline c = eqb c (code "\n")
 
 -- a text to its first newline, which belongs to the line, and what stands behind it
 unfoldable pub firstLine : List ℕ → List ℕ
@@ -97,7 +98,7 @@ digit-unbroken : (d : ℕ) → Unbroken (digitOf d ∷ [])
 unfolding unbroken
 digit-unbroken d =
     either (λ (c : ℕ). Unbroken (c ∷ [])) (ltb d 10) (λ _. rw (ne-eqb (48 + d) 10 (λ e. omega arith)))
-    (λ _. rw (ne-eqb (55 + d) 10 (λ e. omega arith)))
+    (λ _. rw (ne-eqb (65 + (d - 10)) 10 (λ e. omega arith)))
 
 decimal-unbroken : (k n : ℕ) → Unbroken (decimalOf k n)
 unfolding decimalOf unbroken
@@ -141,7 +142,7 @@ line-is-line r =
 
 runs-is-line : (n : ℕ) → IsLine (runsText n)
 unfolding runsText unbroken
-runs-is-line n = before (114 ∷ 117 ∷ 110 ∷ 115 ∷ 32 ∷ []) refl (before (decimalOf 20 n) (decimal-unbroken 20 n) end-line)
+runs-is-line n = before (ascii "runs ") refl (before (decimalOf 20 n) (decimal-unbroken 20 n) end-line)
 
 -- ---- the lines of a report
 
