@@ -11,7 +11,6 @@ use decode::Instruction;
 use decode::Shape;
 use decode::Table;
 use mmu::Access;
-use mmu::Accessed;
 use mmu::word_at;
 use plan::NOT_PERMITTED;
 use plan::Plan;
@@ -100,14 +99,6 @@ impl State {
         }
     }
 
-    // The fetch of a word.
-    fn fetch(self, a: u16) -> Accessed
-        ensures { λ r. ⌜ r ≡ def.fetched self a ⌝ }
-    {
-        let tlb = self.tlb;
-        plan::fetch(self.translates(), tlb, a)
-    }
-
     // The second word, if there is one, and on.
     fn plan_second(self, mem: &[u8], shape: Shape) -> Planned
         requires { ⌜ length (now mem) ≡ 65536 ⌝ }
@@ -118,7 +109,8 @@ impl State {
         let mut following = plus(self.pc, 2);
         if shape.second {
             let a = following;
-            let x = self.fetch(a);
+            let tlb = self.tlb;
+            let x = plan::fetch(self.translates(), tlb, a);
             let marks = x.tlb;
             let access = x.access;
             state = self.set_tlb(marks);
@@ -168,7 +160,8 @@ impl State {
         requires { ⌜ (length (now mem) ≡ 65536) × (now table ≡ tableOf) ⌝ }
         ensures { λ r. ⌜ r ≡ def.planFetch self (now (mem .entry)) ⌝ }
     {
-        let x = self.fetch(self.pc);
+        let tlb = self.tlb;
+        let x = plan::fetch(self.translates(), tlb, self.pc);
         let marks = x.tlb;
         let access = x.access;
         let state = self.set_tlb(marks);

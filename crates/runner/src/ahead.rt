@@ -4,8 +4,6 @@ ghost use Prim.Native.Nat.{_*_, _≤_};
 ghost use lib.ListN.{length};
 ghost use Rattle.runner.specs.Goes.{Goes, Ready};
 ghost use Rattle.hot.specs.Hot.{hot, hotState};
-ghost use Rattle.machine.specs.Plan.{translates};
-ghost use Rattle.pages.specs.Maps.{Mapped};
 use crate::Part;
 use crate::quick::quick;
 use hot::Hot;
@@ -75,9 +73,9 @@ fn gather(mut base: State, rs: [u16; 16], h: Hot) -> State
     base.set_sp(rs[13])
 }
 
-// Plain instructions of a running machine with no interrupt due, by the map of its pages.
-fn stretch(state: State, map: &[u16; 256], mem: &mut [u8], allowance: u16) -> Part
-    requires { ⌜ (length (now mem) ≡ 65536) × Ready state × Mapped (translates state) (state .tlb) (now map) ⌝ }
+// Plain instructions of a running machine with no interrupt due.
+fn stretch(state: State, mem: &mut [u8], allowance: u16) -> Part
+    requires { ⌜ (length (now mem) ≡ 65536) × Ready state ⌝ }
     ensures goes { λ r. ⌜ Goes state (now (mem .entry)) (r .steps) (r .states) (r .state) (now (mem .exit)) ⌝ }
     ensures bounds { λ r. ⌜ (r .steps ≤ allowance) × (r .states ≤ 65535 * r .steps) ⌝ }
 {
@@ -91,7 +89,15 @@ fn stretch(state: State, map: &[u16; 256], mem: &mut [u8], allowance: u16) -> Pa
         z: f.z,
         cost: 0,
     };
-    let q = quick(first, &mut regs, map, mem, allowance);
+    let tlb = state.tlb;
+    // Each mode calls the loop by itself, so that the compiler leaves it a function of its own.
+    let q = if state.translates() {
+        let map = page_map(true, tlb);
+        quick(first, &mut regs, &map, mem, allowance)
+    } else {
+        let map = page_map(false, tlb);
+        quick(first, &mut regs, &map, mem, allowance)
+    };
     let last = q.hot;
     Part {
         state: gather(state, regs, last),
@@ -134,12 +140,5 @@ pub fn ahead(state: State, mem: &mut [u8], allowance: u16) -> Part
             states: 0,
         };
     }
-    // Each mode calls it by itself, so that the compiler leaves the loop a function of its own.
-    let tlb = state.tlb;
-    if state.translates() {
-        let map = page_map(true, tlb);
-        return stretch(state, &map, mem, allowance);
-    }
-    let map = page_map(false, tlb);
-    stretch(state, &map, mem, allowance)
+    stretch(state, mem, allowance)
 }

@@ -5,6 +5,9 @@ use Rattle.machine.specs.Plan.{planFetch}
 use Rattle.machine.proofs.State.plan_fetch.Statement.{statement}
 use Rattle.machine.proofs.State.plan_fetch.Tie as tie
 
+translates-requires : tie.Need-translates-requires
+translates-requires c κs = search needs
+
 fetch-requires : tie.Need-fetch-requires
 fetch-requires c κs = search needs
 
@@ -30,18 +33,21 @@ returns : tie.Need-returns
 unfolding planFetch
 returns c =
     let granted = c .before .before .before .before in
-    rw (← granted .before .before .before .before .fetch .ensures, ← granted .before .before .set-tlb .ensures, granted .access .given .1)
+    let fetched = granted .before .before .before .before in
+    rw (← fetched .before .translates .ensures, ← fetched .fetch .ensures, ← granted .before .before .set-tlb .ensures, granted .access .given .1)
     (rw (← c .before .before .word-at .ensures, ← c .before .first-word .ensures) (c .plan-first .ensures))
 
 returns-2 : tie.Need-returns-2
 unfolding planFetch
 returns-2 c =
-    rw (← c .before .before .before .before .before .fetch .ensures, ← c .before .before .before .set-tlb .ensures, c .before .access2 .given .1)
+    let fetched = c .before .before .before .before .before in
+    rw (← fetched .before .translates .ensures, ← fetched .fetch .ensures, ← c .before .before .before .set-tlb .ensures, c .before .access2 .given .1)
 
 pub plan-fetch-spec : {M : Type 1} → statement M
 plan-fetch-spec =
     tie.close
     (tie.spec
+    translates-requires
     fetch-requires
     set-tlb-requires
     enum-known-access

@@ -11,6 +11,9 @@ use Rattle.machine.proofs.State.plan_second.Tie as tie
 plus-requires : tie.Need-plus-requires
 plus-requires c κs = search needs
 
+translates-requires : tie.Need-translates-requires
+translates-requires c κs = search needs
+
 fetch-requires : tie.Need-fetch-requires
 fetch-requires c κs = search needs
 
@@ -34,8 +37,9 @@ unfolding planSecond
 returns c =
     let failed = c .before in
     let fetched = failed .before .before .before .before in
-    rw (fetched .before .if1 .taken, ← fetched .before .before .plus .ensures, ← fetched .fetch .ensures, ← failed .before .before .set-tlb .ensures)
-    (rw (failed .access2 .given .1))
+    let long = fetched .before .before .before in
+    rw (long .if1 .taken, ← long .before .plus .ensures, ← fetched .before .translates .ensures, ← fetched .fetch .ensures)
+    (rw (← failed .before .before .set-tlb .ensures, failed .access2 .given .1))
 
 decoded-requires : tie.Need-decoded-requires
 decoded-requires c κs = search needs
@@ -52,8 +56,8 @@ unfolding planSecond
 meets c =
     ⊎-elim
     (λ w.
-    rw (w .0 .taken, w .9, w .10, w .11, ← c .before .plus .ensures, ← w .1 .ensures, ← w .3 .ensures)
-    (rw (w .5 .given .1, ← w .7 .ensures, ← w .8 .ensures)))
+    rw (w .0 .taken, w .11, w .12, w .13, ← c .before .plus .ensures, ← w .2 .ensures, ← w .3 .ensures, ← w .5 .ensures)
+    (rw (w .7 .given .1, ← w .9 .ensures, ← w .10 .ensures)))
     (λ w. rw (w .0 .left, w .1, w .2, w .3, ← c .before .plus .ensures))
     (c .if1 .came)
 
@@ -65,6 +69,7 @@ plan-second-spec =
     tie.close
     (tie.spec
     plus-requires
+    translates-requires
     fetch-requires
     set-tlb-requires
     enum-known-access
