@@ -6,7 +6,6 @@ mod table;
 
 pub use opcode::first_word;
 pub use operands::decoded;
-pub use operands::operand_from;
 pub use table::Table;
 pub use table::entries;
 

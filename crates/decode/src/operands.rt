@@ -14,7 +14,7 @@ use crate::Shape;
 fn frame_offset(field: u16) -> i16
     ensures { λ r. ⌜ r ≡ signed4 field *ℤ pos 2 ⌝ }
 {
-    word::four_bits(field) * 2
+    word::sign_extend(field) * 2
 }
 
 // The operand in a mode, from the last field and the second word.
@@ -28,7 +28,7 @@ pub fn operand_from(mode: u8, rx: u8, second: u16) -> Operand
         2 => Operand::Immediate(second),
         3 => Operand::Frame(frame_offset(rx as u16)),
         4 => Operand::Register(rx),
-        5 => Operand::Short(word::four_bits(rx as u16)),
+        5 => Operand::Short(word::sign_extend(rx as u16)),
         6 => Operand::Indirect(rx),
         7 => Operand::ByteIndirect(rx),
         _ => Operand::Nothing,

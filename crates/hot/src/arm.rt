@@ -14,7 +14,7 @@ use word::Alu;
 
 impl Hot {
     // To another address, in these states.
-    pub fn to(self, pc: u16, cost: u32) -> Hot
+    pub(crate) fn to(self, pc: u16, cost: u32) -> Hot
         ensures { λ r. ⌜ r ≡ record { pc = pc; v = self .v; c = self .c; s = self .s; z = self .z; cost = cost } ⌝ }
     {
         Hot {
@@ -28,21 +28,21 @@ impl Hot {
     }
 
     // Not carried out.
-    pub fn stop(self) -> Hot
+    pub(crate) fn stop(self) -> Hot
         ensures { λ r. ⌜ r .cost ≡ 0 ⌝ }
     {
         self.to(self.pc, 0)
     }
 
     // A jump is taken.
-    pub fn taken(self, n: u8) -> bool
+    pub(crate) fn taken(self, n: u8) -> bool
         ensures { λ r. ⌜ r ≡ takenOn n (self .v) (self .c) (self .s) (self .z) ⌝ }
     {
         status::taken(n, self.v, self.c, self.s, self.z)
     }
 
     // LD and ADD to SHRL with their operand.
-    pub fn operate(self, regs: &mut [u16; 16], w: u16, x: Source) -> Hot
+    pub(crate) fn operate(self, regs: &mut [u16; 16], w: u16, x: Source) -> Hot
         requires { ⌜ (length (now regs) ≡ 16) × (x .cost ≡ addCost (modeOf w)) ⌝ }
         ensures { λ r. ⌜ Operates (now (regs .entry)) self w x (now (regs .exit)) r ⌝ }
     {

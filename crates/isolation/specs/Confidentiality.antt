@@ -46,7 +46,7 @@ use Rattle.mmu.specs.declared.Right.{Right}
 use Rattle.mmu.specs.declared.Right.the-variants.{Execute, Read, Write}
 use Rattle.mmu.specs.declared.Store.the-variants as store
 use Rattle.word.specs.Cases.{either}
-use Rattle.word.specs.Word.{joined, plus, upper}
+use Rattle.word.specs.Word.{halves, plus, upper}
 use Rattle.isolation.specs.Rights.{ByteIn, byte-in, on, rights-marked, user-after, word-in}
 use Rattle.isolation.specs.OneStep.{Confidentiality, Indistinct, endingOf}
 use Rattle.isolation.specs.Statement.{UserMode, atHandler, hasRight, visible}
@@ -88,7 +88,7 @@ module _ (m m′ : List ℕ) where
     word-same : (right : Right) → Sees right → (a p : ℕ) → (wordAccess t tlb right a) .access ≡ access.At p → wordAt m p ≡ wordAt m′ p
     word-same right s a p q =
         let w : ByteIn tlb right p × ByteIn tlb right (plus p 1) = word-in t e tlb right a p q in
-        ap₂ joined (here right s (w .0)) (here right s (w .1))
+        ap₂ halves (here right s (w .0)) (here right s (w .1))
 
   -- ---- the data access
 

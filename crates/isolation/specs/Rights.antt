@@ -18,7 +18,7 @@ use Rattle.mmu.specs.Marks.{Like, like-frame, like-gives, like-valid, marked-li
 use Rattle.mmu.specs.declared.Access.the-variants.{At}
 use Rattle.mmu.specs.declared.Accessed.{Accessed}
 use Rattle.mmu.specs.declared.Right.{Right}
-use Rattle.word.specs.Word.{joined, lower, plus, upper}
+use Rattle.word.specs.Word.{halves, lower, plus, upper}
 use Rattle.isolation.specs.OneStep.{SameRights}
 use Rattle.isolation.specs.Statement.{UserMode, hasRight}
 
@@ -59,7 +59,7 @@ module _ (on : Bool) (t : on ≡ true) (tlb : List ℕ) (right : Right) (a p : �
   granted-in : {x : Accessed} → AccessCases on tlb right a x → x .access ≡ At p → ByteIn tlb right p
   granted-in (direct off e) q = absurd (true≢false (sym t ∙ off))
   granted-in (served k o b h g e) q =
-      let same : p ≡ joined (frameIn (getD tlb k 0)) (lower a) = cc in
+      let same : p ≡ halves (frameIn (getD tlb k 0)) (lower a) = cc in
       let frame : p / 256 ≡ frameIn (getD tlb k 0) = omega arith in
       record { inside = omega arith; allowed = rw frame (shows tlb k right (held-valid (upper a) (getD tlb k 0) h) g) }
   granted-in (fails why e) q = let z : _≡_ {A = ℕ} 0 1 = cc in absurd (omega arith)

@@ -25,7 +25,7 @@ fn push_both(mem: &mut [u8], ssp: u16, flag: u16, saved: u16)
 }
 
 impl State {
-    pub fn set_pending(mut self, lines: u16) -> State
+    pub(crate) fn set_pending(mut self, lines: u16) -> State
         ensures { λ r. ⌜ r ≡ withPending self lines ⌝ }
     {
         self.pending = lines;

@@ -34,7 +34,7 @@ fn alu(code: u8, a: u16, b: u16) -> Alu
 }
 
 // What an instruction did.
-pub fn event_of(op: Operation) -> Event
+pub(crate) fn event_of(op: Operation) -> Event
     ensures { λ r. ⌜ r ≡ def.eventOf op ⌝ }
 {
     if op.code == HALT {
@@ -44,7 +44,7 @@ pub fn event_of(op: Operation) -> Event
 }
 
 impl State {
-    pub fn set_condition(self, condition: Condition) -> State
+    pub(crate) fn set_condition(self, condition: Condition) -> State
         ensures { λ r. ⌜ r ≡ withCondition self condition ⌝ }
     {
         let regs = self.regs;
@@ -105,7 +105,7 @@ impl State {
     }
 
     // The state after an instruction.
-    pub fn perform(self, op: Operation) -> State
+    pub(crate) fn perform(self, op: Operation) -> State
         ensures { λ r. ⌜ r ≡ def.afterOperation self op ⌝ }
     {
         self.set_pc(op.pc).body(op)

@@ -15,7 +15,7 @@ use word::to_word;
 
 impl State {
     // The address that an operand names.
-    pub fn address(self, operand: Operand) -> u16
+    pub(crate) fn address(self, operand: Operand) -> u16
         ensures { λ r. ⌜ r ≡ def.addressOf (regOf self) operand ⌝ }
     {
         match operand {
@@ -49,7 +49,7 @@ impl State {
     }
 
     // The data access of an instruction, `a` being the operand's address.
-    pub fn need(self, access: DataAccess, a: u16, operand: Operand) -> Need
+    pub(crate) fn need(self, access: DataAccess, a: u16, operand: Operand) -> Need
         ensures { λ r. ⌜ r ≡ def.needOf access (regOf self) (spOf self) (flagOf self) a operand ⌝ }
     {
         match access {

@@ -63,7 +63,7 @@ fn write_entry(mut tlb: [u32; 8], port: u16, v: u16) -> [u32; 8]
 
 impl State {
     // What IN gives.
-    pub fn port_value(self, port: u16) -> u16
+    pub(crate) fn port_value(self, port: u16) -> u16
         ensures { λ r. ⌜ r ≡ def.portValue self port ⌝ }
     {
         match port {
@@ -80,7 +80,7 @@ impl State {
     }
 
     // The state after IN.
-    pub fn port_in(mut self, port: u16) -> State
+    pub(crate) fn port_in(mut self, port: u16) -> State
         ensures { λ r. ⌜ r ≡ def.afterIn self port ⌝ }
     {
         if port == CAUSE {
@@ -93,7 +93,7 @@ impl State {
     }
 
     // The state after OUT.
-    pub fn port_out(mut self, port: u16, v: u16) -> State
+    pub(crate) fn port_out(mut self, port: u16, v: u16) -> State
         ensures { λ r. ⌜ r ≡ def.afterOut self port v ⌝ }
     {
         match port {

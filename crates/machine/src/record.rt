@@ -6,7 +6,7 @@ use mmu::Fault;
 
 impl State {
     // The violation address and cause, or the missed page, of an access that was not granted.
-    pub fn note(mut self, fault: Fault, a: u16) -> State
+    pub(crate) fn note(mut self, fault: Fault, a: u16) -> State
         ensures { λ r. ⌜ r ≡ def.noted fault a self ⌝ }
     {
         let old = self.fault;

@@ -54,7 +54,7 @@ impl State {
         self
     }
 
-    pub fn set_pc(mut self, a: u16) -> State
+    pub(crate) fn set_pc(mut self, a: u16) -> State
         ensures { λ r. ⌜ r ≡ withPc self a ⌝ }
     {
         self.pc = a;

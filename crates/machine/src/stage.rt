@@ -22,7 +22,7 @@ use plan::value_stored;
 use word::plus;
 
 impl State {
-    pub fn set_tlb(mut self, tlb: [u32; 8]) -> State
+    pub(crate) fn set_tlb(mut self, tlb: [u32; 8]) -> State
         ensures { λ r. ⌜ r ≡ withTlb self tlb ⌝ }
     {
         self.tlb = tlb;
@@ -178,7 +178,7 @@ impl State {
     }
 
     // The plan of a step, and the state with the marks of its accesses.
-    pub fn plan(self, mem: &[u8], table: &Table) -> Planned
+    pub(crate) fn plan(self, mem: &[u8], table: &Table) -> Planned
         requires { ⌜ (length (now mem) ≡ 65536) × (now table ≡ tableOf) ⌝ }
         ensures { λ r. ⌜ r ≡ def.planOf self (now (mem .entry)) ⌝ }
     {

@@ -9,11 +9,11 @@ use lib.Dec.{eqb}
 use lib.ListN.{getD}
 use borrow.Author.Tests.{eq-eqb, eqb-true}
 use Rattle.mmu.specs.Entry.{pageIn, valid}
-use Rattle.mmu.specs.Lookup.{holds, lookupFrom, lookupOf}
+use Rattle.mmu.specs.Lookup.{hasPage, lookupFrom, lookupOf}
 use Rattle.mmu.specs.declared.Lookup.the-variants.{Entry, Missing}
 
 -- page and V are the bits from 15 up
-serves : (entry page : ℕ) → entry / 32768 ≡ page * 2 + 1 → holds page entry ≡ true
+serves : (entry page : ℕ) → entry / 32768 ≡ page * 2 + 1 → hasPage page entry ≡ true
 serves entry page h = rw (eq-eqb (entry / 65536) page (omega arith), eq-eqb (entry / 32768 % 2) 1 (omega arith))
 
 no-valid : (entry page : ℕ) → (entry / 32768 ≡ page * 2 + 1 → ⊥) → entry / 65536 ≡ page → entry / 32768 % 2 ≡ 1 → ⊥
@@ -24,7 +24,7 @@ passes-by entry page false b p q h = refl
 passes-by entry page true false p q h = refl
 passes-by entry page true true p q h = absurd (no-valid entry page h (eqb-true _ _ p) (eqb-true _ _ q))
 
-passes : (entry page : ℕ) → (entry / 32768 ≡ page * 2 + 1 → ⊥) → holds page entry ≡ false
+passes : (entry page : ℕ) → (entry / 32768 ≡ page * 2 + 1 → ⊥) → hasPage page entry ≡ false
 passes entry page h = passes-by entry page _ _ refl refl h
 
 module _ (tlb : List ℕ) (page k : ℕ) where

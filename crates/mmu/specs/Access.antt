@@ -6,7 +6,7 @@ use mathlib.Core.List.{List}
 use Prim.Native.Nat.{ℕ, _%_}
 use lib.Dec.{eqb}
 use lib.ListN.{getD, set}
-use Rattle.word.specs.Word.{joined, lower, upper}
+use Rattle.word.specs.Word.{halves, lower, upper}
 use Rattle.mmu.specs.Entry.{frameIn, gives, marked}
 use Rattle.mmu.specs.Lookup.{lookupOf}
 use Rattle.mmu.specs.declared.Access.the-variants.{At, Fails}
@@ -27,7 +27,7 @@ failed why tlb = record { access = Fails why; tlb = tlb }
 unfoldable pub byEntry : List ℕ → ℕ → Right → ℕ → Accessed
 byEntry tlb k right a =
     cond (gives right (getD tlb k 0))
-    (granted (joined (frameIn (getD tlb k 0)) (lower a)) (set tlb k (marked right (getD tlb k 0))))
+    (granted (halves (frameIn (getD tlb k 0)) (lower a)) (set tlb k (marked right (getD tlb k 0))))
     (failed fault.Refused tlb)
 
 -- "then no entry"

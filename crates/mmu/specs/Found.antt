@@ -9,24 +9,24 @@ use borrow.Author.Tests.{eqb-true}
 use lib.Dec.{eqb}
 use lib.ListN.{getD}
 use Rattle.mmu.specs.Entry.{pageIn, valid}
-use Rattle.mmu.specs.Lookup.{holds, lookupFrom, lookupOf}
+use Rattle.mmu.specs.Lookup.{hasPage, lookupFrom, lookupOf}
 use Rattle.mmu.specs.declared.Lookup.{Lookup}
 use Rattle.mmu.specs.declared.Lookup.the-variants.{Entry, Missing}
 
 pub record Found (tlb : List ℕ) (page k : ℕ) : Type 0 where
   pub below : k < 8
-  pub held : holds page (getD tlb k 0) ≡ true
+  pub held : hasPage page (getD tlb k 0) ≡ true
 
 found-from :
-    (tlb : List ℕ) (page left k n : ℕ) → lookupFrom tlb page left k ≡ Entry n → (n < k + left) × (holds page (getD tlb n 0) ≡ true)
+    (tlb : List ℕ) (page left k n : ℕ) → lookupFrom tlb page left k ≡ Entry n → (n < k + left) × (hasPage page (getD tlb n 0) ≡ true)
 unfolding lookupFrom
 found-from tlb page zero k n e = let z : _≡_ {A = ℕ} 0 1 = cc in absurd (omega arith)
-found-from tlb page (suc left) k n e = by (holds page (getD tlb k 0)) refl (found-from tlb page left (k + 1) n) e
+found-from tlb page (suc left) k n e = by (hasPage page (getD tlb k 0)) refl (found-from tlb page left (k + 1) n) e
   where
     by :
-        (t : Bool) → holds page (getD tlb k 0) ≡ t
-        → (lookupFrom tlb page left (k + 1) ≡ Entry n → (n < k + 1 + left) × (holds page (getD tlb n 0) ≡ true))
-        → cond t (Entry k) (lookupFrom tlb page left (k + 1)) ≡ Entry n → (n < k + suc left) × (holds page (getD tlb n 0) ≡ true)
+        (t : Bool) → hasPage page (getD tlb k 0) ≡ t
+        → (lookupFrom tlb page left (k + 1) ≡ Entry n → (n < k + 1 + left) × (hasPage page (getD tlb n 0) ≡ true))
+        → cond t (Entry k) (lookupFrom tlb page left (k + 1)) ≡ Entry n → (n < k + suc left) × (hasPage page (getD tlb n 0) ≡ true)
     by true h later e = let same : n ≡ k = cc in (omega arith, rw same h)
     by false h later e = let r = later e in (omega (arith, r .0), r .1)
 
@@ -40,8 +40,8 @@ pub both : (a b : Bool) → (a && b) ≡ true → (a ≡ true) × (b ≡ true)
 both true b e = (refl, e)
 both false b e = absurd (false≢true e)
 
-pub held-valid : (page entry : ℕ) → holds page entry ≡ true → valid entry ≡ true
+pub held-valid : (page entry : ℕ) → hasPage page entry ≡ true → valid entry ≡ true
 held-valid page entry h = both (eqb (pageIn entry) page) (valid entry) h .1
 
-pub held-page : (page entry : ℕ) → holds page entry ≡ true → pageIn entry ≡ page
+pub held-page : (page entry : ℕ) → hasPage page entry ≡ true → pageIn entry ≡ page
 held-page page entry h = eqb-true _ _ (both (eqb (pageIn entry) page) (valid entry) h .0)

@@ -8,7 +8,7 @@ use native.Mathlib.Omega.{arith}
 use borrow.Author.Tests.{ne-eqb}
 use lib.ListN.{getD}
 use lib.Seq.{set-getD}
-use Rattle.word.specs.Word.{joined, lower, upper}
+use Rattle.word.specs.Word.{halves, lower, upper}
 use Rattle.mmu.specs.Access.{byEntry, byTlb, byteAccess, granted, wordAccess}
 use Rattle.mmu.specs.Entry.{frameIn, gives, marked}
 use Rattle.mmu.specs.Lookup.{lookupOf}
@@ -26,7 +26,7 @@ module _ (tlb : List ℕ) (right : Right) (a : ℕ) where
 
   pub served-marked :
       (k : ℕ) → lookupOf tlb (upper a) ≡ Entry k → gives right (getD tlb k 0) ≡ true
-      → marked right (getD tlb k 0) ≡ getD tlb k 0 → byTlb tlb right a ≡ granted (joined (frameIn (getD tlb k 0)) (lower a)) tlb
+      → marked right (getD tlb k 0) ≡ getD tlb k 0 → byTlb tlb right a ≡ granted (halves (frameIn (getD tlb k 0)) (lower a)) tlb
   unfolding byTlb byEntry
   served-marked k e g m = rw (e, g, m, set-getD)
 

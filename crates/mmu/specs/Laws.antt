@@ -8,11 +8,11 @@ use native.Mathlib.Omega.{arith}
 use borrow.Author.Tests.{eqb-false}
 use lib.Dec.{eqb}
 use lib.ListN.{getD, length, set, length-set}
-use Rattle.word.specs.Word.{joined, lower, upper}
+use Rattle.word.specs.Word.{halves, lower, upper}
 use Rattle.mmu.specs.Access.{byEntry, byLookup, byTlb, byteAccess, failed, granted, wordAccess}
 use Rattle.mmu.specs.Entry.{frameIn, gives, marked}
 use Rattle.mmu.specs.Found.{Found, found}
-use Rattle.mmu.specs.Lookup.{holds, lookupOf}
+use Rattle.mmu.specs.Lookup.{hasPage, lookupOf}
 use Rattle.mmu.specs.declared.Access.the-variants.{At}
 use Rattle.mmu.specs.declared.Accessed.{Accessed}
 use Rattle.mmu.specs.declared.Fault.{Fault}
@@ -26,8 +26,8 @@ use Rattle.mmu.specs.declared.Right.{Right}
 pub data AccessCases (on : Bool) (tlb : List ℕ) (right : Right) (a : ℕ) (x : Accessed) : Type 0 where
   direct : on ≡ false → x ≡ granted a tlb → AccessCases on tlb right a x
   served :
-      (k : ℕ) → on ≡ true → k < 8 → holds (upper a) (getD tlb k 0) ≡ true → gives right (getD tlb k 0) ≡ true
-      → x ≡ granted (joined (frameIn (getD tlb k 0)) (lower a)) (set tlb k (marked right (getD tlb k 0))) → AccessCases on tlb right a x
+      (k : ℕ) → on ≡ true → k < 8 → hasPage (upper a) (getD tlb k 0) ≡ true → gives right (getD tlb k 0) ≡ true
+      → x ≡ granted (halves (frameIn (getD tlb k 0)) (lower a)) (set tlb k (marked right (getD tlb k 0))) → AccessCases on tlb right a x
   fails : (why : Fault) → x ≡ failed why tlb → AccessCases on tlb right a x
 
 module _ (tlb : List ℕ) (right : Right) (a : ℕ) where
@@ -38,7 +38,7 @@ module _ (tlb : List ℕ) (right : Right) (a : ℕ) where
       by :
           (t : Bool) → gives right (getD tlb k 0) ≡ t
           → AccessCases true tlb right a
-          (cond t (granted (joined (frameIn (getD tlb k 0)) (lower a)) (set tlb k (marked right (getD tlb k 0)))) (failed fault.Refused tlb))
+          (cond t (granted (halves (frameIn (getD tlb k 0)) (lower a)) (set tlb k (marked right (getD tlb k 0)))) (failed fault.Refused tlb))
       by true g = served k refl (f .below) (f .held) g refl
       by false g = fails fault.Refused refl
 
@@ -88,10 +88,10 @@ module _ {on : Bool} {tlb : List ℕ} {right : Right} {a : ℕ} {x : Accessed} w
   -- the address that is granted: within memory, and in its page where the access asked
   pub granted-inside : {p : ℕ} → AccessCases on tlb right a x → a < 65536 → x .access ≡ At p → p < 65536
   granted-inside {p} (direct off e) l q = let same : p ≡ a = cc in omega arith
-  granted-inside {p} (served k o b v g e) l q = let same : p ≡ joined (frameIn (getD tlb k 0)) (lower a) = cc in omega arith
+  granted-inside {p} (served k o b v g e) l q = let same : p ≡ halves (frameIn (getD tlb k 0)) (lower a) = cc in omega arith
   granted-inside (fails why e) l q = let z : _≡_ {A = ℕ} 0 1 = cc in absurd (omega arith)
 
   pub granted-lower : {p : ℕ} → AccessCases on tlb right a x → x .access ≡ At p → lower p ≡ lower a
   granted-lower {p} (direct off e) q = let same : p ≡ a = cc in omega arith
-  granted-lower {p} (served k o b v g e) q = let same : p ≡ joined (frameIn (getD tlb k 0)) (lower a) = cc in omega arith
+  granted-lower {p} (served k o b v g e) q = let same : p ≡ halves (frameIn (getD tlb k 0)) (lower a) = cc in omega arith
   granted-lower (fails why e) q = let z : _≡_ {A = ℕ} 0 1 = cc in absurd (omega arith)

@@ -10,13 +10,13 @@ use Rattle.mmu.specs.declared.Lookup.{Lookup}
 use Rattle.mmu.specs.declared.Lookup.the-variants.{Entry, Missing}
 
 -- a valid entry with the page
-abbrev pub holds : ℕ → ℕ → Bool
-holds page entry = eqb (pageIn entry) page && valid entry
+abbrev pub hasPage : ℕ → ℕ → Bool
+hasPage page entry = eqb (pageIn entry) page && valid entry
 
 -- among `left` entries from k on
 unfoldable pub lookupFrom : List ℕ → ℕ → ℕ → ℕ → Lookup
 lookupFrom tlb page zero k = Missing
-lookupFrom tlb page (suc left) k = cond (holds page (getD tlb k 0)) (Entry k) (lookupFrom tlb page left (k + 1))
+lookupFrom tlb page (suc left) k = cond (hasPage page (getD tlb k 0)) (Entry k) (lookupFrom tlb page left (k + 1))
 
 unfoldable pub lookupOf : List ℕ → ℕ → Lookup
 lookupOf tlb page = lookupFrom tlb page 8 0

@@ -3,7 +3,7 @@
 use mathlib.Core.List.{List}
 use Prim.Native.Nat.{ℕ}
 use lib.ListN.{getD, set}
-use Rattle.word.specs.Word.{joined, lower, plus, upper}
+use Rattle.word.specs.Word.{halves, lower, plus, upper}
 use Rattle.mmu.specs.declared.Store.{Store}
 use Rattle.mmu.specs.declared.Store.the-variants.{Byte, Nothing, Word}
 
@@ -12,7 +12,7 @@ abbrev pub byteAt : List ℕ → ℕ → ℕ
 byteAt m a = getD m a 0
 
 abbrev pub wordAt : List ℕ → ℕ → ℕ
-wordAt m a = joined (getD m a 0) (getD m (plus a 1) 0)
+wordAt m a = halves (getD m a 0) (getD m (plus a 1) 0)
 
 -- "a byte store writes the lower half"
 abbrev pub storeByte : List ℕ → ℕ → ℕ → List ℕ

@@ -1,15 +1,13 @@
 // Memory and the MMU: bytes and words by physical address, TLB entries, the lookup of a page, an access.
-mod accessing;
+mod accesses;
 mod entry;
 mod lookups;
 mod memory;
 
-pub use accessing::byte_access;
-pub use accessing::word_access;
-pub use lookups::look_up;
+pub use accesses::byte_access;
+pub use accesses::word_access;
 pub use memory::byte_at;
 pub use memory::make_store;
-pub use memory::store_byte;
 pub use memory::store_word;
 pub use memory::word_at;
 

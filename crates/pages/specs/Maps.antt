@@ -14,14 +14,14 @@ use mir.Val.{boolByte}
 use Rattle.mmu.specs.Access.{byteAccess, granted, wordAccess}
 use Rattle.mmu.specs.Entry.{frameIn, pageIn, valid}
 use Rattle.mmu.specs.Grants.{even-word, plain-granted, served-marked, translated}
-use Rattle.mmu.specs.Lookup.{holds, lookupFrom, lookupOf}
+use Rattle.mmu.specs.Lookup.{hasPage, lookupFrom, lookupOf}
 use Rattle.mmu.specs.Marks.{usable-marked, usableIn}
 use Rattle.mmu.specs.declared.Accessed.{Accessed}
 use Rattle.mmu.specs.declared.Lookup.{Lookup}
 use Rattle.mmu.specs.declared.Lookup.the-variants.{Entry, Missing}
 use Rattle.mmu.specs.declared.Right.{Right}
 use Rattle.mmu.specs.declared.Right.the-variants.{Execute, Read, Write}
-use Rattle.word.specs.Word.{bit, isSet, joined, lower, upper}
+use Rattle.word.specs.Word.{bit, isSet, halves, lower, upper}
 use Rattle.pages.specs.declared.Width.{Width}
 use Rattle.pages.specs.declared.Width.the-variants.{Byte, Word}
 
@@ -36,7 +36,7 @@ lowest-bit x = let e : x % 2 ≡ bit 0 x = omega arith in rw e
 
 -- the physical address
 abbrev pub placeIn : List ℕ → ℕ → ℕ
-placeIn map a = joined (upper (getD map (upper a) 0)) (lower a)
+placeIn map a = halves (upper (getD map (upper a) 0)) (lower a)
 
 -- how many bytes are accessed, and the access
 abbrev pub bytesOf : Width → ℕ
@@ -134,7 +134,7 @@ module _ (tlb : List ℕ) where
 
   -- entry k is before the others: it is valid and its page is one of the map, or it is not in the map
   module _ (k : ℕ) (less : k < 8) (map : List ℕ) (rest : ShowsFrom (k + 1) map) where
-    left : (p : ℕ) → lookupFrom tlb p (8 - k) k ≡ cond (holds p (getD tlb k 0)) (Entry k) (lookupFrom tlb p (8 - (k + 1)) (k + 1))
+    left : (p : ℕ) → lookupFrom tlb p (8 - k) k ≡ cond (hasPage p (getD tlb k 0)) (Entry k) (lookupFrom tlb p (8 - (k + 1)) (k + 1))
     unfolding lookupFrom
     left p = let e : 8 - k ≡ suc (8 - (k + 1)) = omega arith in rw e
 

@@ -4,7 +4,7 @@ ghost use mathlib.Core.Path.{_≡_};
 ghost use Prim.Native.Nat.{_<_};
 ghost use Rattle.mmu.specs.Entry.{pageIn};
 ghost use Rattle.mmu.specs.Marks.{usableIn};
-ghost use Rattle.word.specs.Word.{isSet, joined, lower, upper};
+ghost use Rattle.word.specs.Word.{isSet, halves, lower, upper};
 ghost use Rattle.pages.specs.Maps.{Mapped, Placed, SelfTo, ShowsFrom, mapBit, shownOf};
 ghost use Rattle.pages.specs.declared.Width.the-variants as width;
 use crate::NOWHERE;
@@ -94,7 +94,7 @@ fn is_open(right: Right, shown: u16) -> bool
 
 // The physical address, in the frame.
 fn physical(shown: u16, a: u16) -> usize
-    ensures { λ r. ⌜ r ≡ joined (upper shown) (lower a) ⌝ }
+    ensures { λ r. ⌜ r ≡ halves (upper shown) (lower a) ⌝ }
 {
     (shown / 256 * 256 + a % 256) as usize
 }

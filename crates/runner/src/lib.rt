@@ -2,12 +2,12 @@
 // other step is the machine's.
 mod ahead;
 mod quick;
-mod running;
+mod runs;
 
 use hot::Hot;
 use machine::State;
-pub use running::run;
-pub use running::run_through;
+pub use runs::run;
+pub use runs::run_through;
 
 // The end of the loop: how many instructions, and their states.
 pub struct Stretch {

@@ -3,14 +3,14 @@
 use mathlib.Core.List.{List, [], _∷_}
 use Prim.Native.Nat.{suc, zero, ℕ, _%_, _+_, _/_}
 use lib.ListN.{getD}
-use Rattle.word.specs.Word.{joined}
+use Rattle.word.specs.Word.{halves}
 
 abbrev pub byteFrom : List ℕ → ℕ → ℕ
 byteFrom b at = getD b at 0
 
 -- the word at an offset
 abbrev pub wordFrom : List ℕ → ℕ → ℕ
-wordFrom b at = joined (getD b at 0) (getD b (at + 1) 0)
+wordFrom b at = halves (getD b at 0) (getD b (at + 1) 0)
 
 -- `n` words from an offset on
 abbrev pub wordsFrom : List ℕ → ℕ → ℕ → List ℕ

@@ -22,8 +22,8 @@ upper w = w / 256
 abbrev pub lower : ℕ → ℕ
 lower w = w % 256
 
-abbrev pub joined : ℕ → ℕ → ℕ
-joined high low = high * 256 + low
+abbrev pub halves : ℕ → ℕ → ℕ
+halves high low = high * 256 + low
 
 -- bit k of a word, 0 or 1
 abbrev pub bit : ℕ → ℕ → ℕ

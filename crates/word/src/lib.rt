@@ -25,7 +25,7 @@ pub use bytes::word_from;
 pub use bytes::words_from;
 pub use jump::Test;
 pub use jump::condition;
-pub use signed::four_bits;
+pub use signed::sign_extend;
 pub use signed::to_word;
 pub use word::minus;
 pub use word::plus;

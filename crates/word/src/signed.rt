@@ -27,7 +27,7 @@ pub fn to_word(x: i16) -> u16
 }
 
 // The lowest four bits of `field` as a signed number, -8 to 7.
-pub fn four_bits(field: u16) -> i16
+pub fn sign_extend(field: u16) -> i16
     ensures { λ r. ⌜ r ≡ signed4 field ⌝ }
 {
     let bits = field % 16;

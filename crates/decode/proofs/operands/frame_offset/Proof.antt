@@ -22,11 +22,11 @@ doubled (negsuc n) h = rw twice (record { sfits = omega arith })
     twice = omega arith
 
 -- the result as it stands in memory
-read-back : (c : tie.After-four-bits) → toZ w16 (ofZ w16 (c .four-bits .result)) ≡ signed4 (c .before .args .field)
-read-back c = toZ-ofZ w16 (c .four-bits .result) (record { sfits = c .four-bits .ok }) ∙ c .four-bits .ensures
+read-back : (c : tie.After-sign-extend) → toZ w16 (ofZ w16 (c .sign-extend .result)) ≡ signed4 (c .before .args .field)
+read-back c = toZ-ofZ w16 (c .sign-extend .result) (record { sfits = c .sign-extend .ok }) ∙ c .sign-extend .ensures
 
-four-bits-requires : tie.Need-four-bits-requires
-four-bits-requires c κs = search needs
+sign-extend-requires : tie.Need-sign-extend-requires
+sign-extend-requires c κs = search needs
 
 mul-result : tie.Need-mul-result
 mul-result c = rw (read-back c) (doubled (signed4 (c .before .args .field)) (signed4-mag (c .before .args .field)))
@@ -38,4 +38,4 @@ returns c =
     (doubled (signed4 (c .before .args .field)) (signed4-mag (c .before .args .field))))
 
 pub frame-offset-spec : {M : Type 1} → statement M
-frame-offset-spec = tie.close (tie.spec four-bits-requires mul-result returns)
+frame-offset-spec = tie.close (tie.spec sign-extend-requires mul-result returns)

@@ -17,8 +17,8 @@ use Rattle.decode.proofs.operands.operand_from.Tie as tie
 frame-offset-requires : tie.Need-frame-offset-requires
 frame-offset-requires c κs = search needs
 
-four-bits-requires : tie.Need-four-bits-requires
-four-bits-requires c κs = search needs
+sign-extend-requires : tie.Need-sign-extend-requires
+sign-extend-requires c κs = search needs
 
 -- it has its mode's number
 both :
@@ -48,7 +48,7 @@ returns-5 c = both _ _ _ (rw (c .match .keys5))
 
 returns-6 : tie.Need-returns-6
 unfolding operandOf
-returns-6 c = both _ _ _ (rw (c .before .match .keys6) (ap Short (toZ-ofZ w16 (c .four-bits .result) (record { sfits = c .four-bits .ok }) ∙ c .four-bits .ensures)))
+returns-6 c = both _ _ _ (rw (c .before .match .keys6) (ap Short (toZ-ofZ w16 (c .sign-extend .result) (record { sfits = c .sign-extend .ok }) ∙ c .sign-extend .ensures)))
 
 returns-7 : tie.Need-returns-7
 unfolding operandOf
@@ -71,7 +71,7 @@ operand-from-spec =
     tie.close
     (tie.spec
     frame-offset-requires
-    four-bits-requires
+    sign-extend-requires
     returns
     returns-2
     returns-3

@@ -1,4 +1,4 @@
--- `runner::running::run_through` meets its contract.
+-- `runner::runs::run_through` meets its contract.
 -- Assumes nothing.
 use mathlib.Core.Path.{sym, _∙_}
 use Prim.Native.Nat.{_-_}
@@ -6,8 +6,8 @@ use native.Mathlib.Omega.{arith}
 use borrow.Author.Needs.{needs}
 use Rattle.machine.proofs.Turn.{ended}
 use Rattle.runner.proofs.Onward.{Come, come, some-step, through-entry, through-last}
-use Rattle.runner.proofs.running.run_through.Statement.{statement}
-use Rattle.runner.proofs.running.run_through.Tie as tie
+use Rattle.runner.proofs.runs.run_through.Statement.{statement}
+use Rattle.runner.proofs.runs.run_through.Tie as tie
 
 abbrev Inv-loop : tie.InvT-loop
 Inv-loop mem₀ allowance table state₀ steps₀ states₀ mem state steps states = Come allowance state₀ mem₀ state mem steps states

@@ -1,4 +1,4 @@
--- `runner::running::counted` meets its contract.
+-- `runner::runs::counted` meets its contract.
 -- Assumes nothing.
 use mathlib.Core.Path.{sym, _∙_, _≡_}
 use Prim.Native.Nat.{_+_, _-_, _≤_}
@@ -7,8 +7,8 @@ use borrow.Author.Needs.{needs}
 use lib.ListN.{length}
 use Rattle.machine.proofs.Turn.{Reached, at-end, at-entry, at-halt, at-loss, goes-on, start}
 use Rattle.runner.proofs.Onward.{closed, onward, unentered}
-use Rattle.runner.proofs.running.counted.Statement.{statement}
-use Rattle.runner.proofs.running.counted.Tie as tie
+use Rattle.runner.proofs.runs.counted.Statement.{statement}
+use Rattle.runner.proofs.runs.counted.Tie as tie
 
 abbrev Inv-loop : tie.InvT-loop
 Inv-loop mem₀ allowance table state₀ steps₀ states₀ spare₀ mem state steps states spare =

@@ -1,9 +1,9 @@
--- `mmu::accessing::byte_access` meets its contract.
+-- `mmu::accesses::byte_access` meets its contract.
 -- Assumes nothing.
 use borrow.Author.Needs.{needs}
 use Rattle.mmu.specs.Access.{byteAccess}
-use Rattle.mmu.proofs.accessing.byte_access.Statement.{statement}
-use Rattle.mmu.proofs.accessing.byte_access.Tie as tie
+use Rattle.mmu.proofs.accesses.byte_access.Statement.{statement}
+use Rattle.mmu.proofs.accesses.byte_access.Tie as tie
 
 translate-requires : tie.Need-translate-requires
 translate-requires c κs = search needs

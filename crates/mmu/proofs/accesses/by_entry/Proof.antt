@@ -1,9 +1,9 @@
--- `mmu::accessing::by_entry` meets its contract.
+-- `mmu::accesses::by_entry` meets its contract.
 -- Assumes nothing.
 use borrow.Author.Needs.{needs}
 use Rattle.mmu.specs.Access.{byEntry}
-use Rattle.mmu.proofs.accessing.by_entry.Statement.{statement}
-use Rattle.mmu.proofs.accessing.by_entry.Tie as tie
+use Rattle.mmu.proofs.accesses.by_entry.Statement.{statement}
+use Rattle.mmu.proofs.accesses.by_entry.Tie as tie
 
 mul-entry : tie.Need-mul-entry
 mul-entry c = search needs

@@ -1,11 +1,11 @@
--- `mmu::accessing::translate` meets its contract.
+-- `mmu::accesses::translate` meets its contract.
 -- Assumes nothing.
 use mathlib.Core.Path.{sym, _∙_}
 use borrow.Author.Needs.{needs}
 use Rattle.mmu.specs.Access.{byTlb}
 use Rattle.mmu.specs.Found.{found}
-use Rattle.mmu.proofs.accessing.translate.Statement.{statement}
-use Rattle.mmu.proofs.accessing.translate.Tie as tie
+use Rattle.mmu.proofs.accesses.translate.Statement.{statement}
+use Rattle.mmu.proofs.accesses.translate.Tie as tie
 
 look-up-requires : tie.Need-look-up-requires
 look-up-requires c κs = search needs

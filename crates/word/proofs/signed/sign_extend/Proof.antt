@@ -1,4 +1,4 @@
--- `word::signed::four_bits` meets its contract: -1 - (15 - n) is the number of a field n of the upper half.
+-- `word::signed::sign_extend` meets its contract: -1 - (15 - n) is the number of a field n of the upper half.
 -- Assumes nothing.
 use mathlib.Core.Path.{sym, _∙_}
 use Prim.Native.Nat.{_-_, _%_}
@@ -8,8 +8,8 @@ use mir.Syntax.{w16}
 use mir.ValLaws.{toZ-pos}
 use Rattle.word.specs.Laws.{signed4-high, signed4-low}
 use Rattle.word.proofs.Below.{less-fits, less-held}
-use Rattle.word.proofs.signed.four_bits.Statement.{statement}
-use Rattle.word.proofs.signed.four_bits.Tie as tie
+use Rattle.word.proofs.signed.sign_extend.Statement.{statement}
+use Rattle.word.proofs.signed.sign_extend.Tie as tie
 
 cast-result : tie.Need-cast-result
 cast-result c = search needs
@@ -33,6 +33,6 @@ returns-2 c =
     less-held (15 - c .before .args .field % 16) (omega arith)
     ∙ sym (signed4-high _ (c .if1 .left))
 
-pub four-bits-spec : {M : Type 1} → statement M
-four-bits-spec =
+pub sign-extend-spec : {M : Type 1} → statement M
+sign-extend-spec =
     tie.close (tie.spec cast-result sub-below cast-result-2 sub-result returns returns-2)

@@ -1,10 +1,10 @@
--- `mmu::accessing::word_access` meets its contract.
+-- `mmu::accesses::word_access` meets its contract.
 -- Assumes nothing.
 use borrow.Author.Needs.{needs}
 use borrow.Author.Tests.{eq-eqb, ne-eqb}
 use Rattle.mmu.specs.Access.{wordAccess}
-use Rattle.mmu.proofs.accessing.word_access.Statement.{statement}
-use Rattle.mmu.proofs.accessing.word_access.Tie as tie
+use Rattle.mmu.proofs.accesses.word_access.Statement.{statement}
+use Rattle.mmu.proofs.accesses.word_access.Tie as tie
 
 failed-requires : tie.Need-failed-requires
 failed-requires c κs = search needs
