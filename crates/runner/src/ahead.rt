@@ -90,7 +90,7 @@ fn stretch(state: State, mem: &mut [u8], allowance: u16) -> Part
         cost: 0,
     };
     let tlb = state.tlb;
-    // Each mode calls the loop by itself, so that the compiler leaves it a function of its own.
+    // For each mode by itself: the compiled loop is faster so.
     let q = if state.translates() {
         let map = page_map(true, tlb);
         quick(first, &mut regs, &map, mem, allowance)

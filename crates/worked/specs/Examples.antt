@@ -25,8 +25,9 @@ use Rattle.mmu.specs.Memory.{stored}
 use Rattle.word.specs.Alu.{addOf, addsOf, andOf, divOf, modOf, mulOf, orOf, shlOf, shraOf, shrlOf, subOf, xorOf}
 use Rattle.word.specs.Jump.{conditionOf, conditionUndefined}
 use Rattle.word.specs.Signed.{signed4}
+use Rattle.worked.specs.Fields.{valueOf, valuesOf}
 use Rattle.worked.specs.Further.{entries, misreadings, pages, results}
-use Rattle.worked.specs.Rows.{Row, expected, memoryOf, starred, stateOf, stepped, valueOf, valuesOf, vectorsFrom}
+use Rattle.worked.specs.Rows.{Row, expected, memoryOf, starred, stateOf, stepped, vectorsFrom}
 
 abbrev pub all : List Row
 all = starred ++ misreadings ++ results ++ pages ++ entries

@@ -2,7 +2,8 @@
 -- Assumes nothing.
 use mathlib.Core.List.{List, [], _∷_}
 use Rattle.machine.specs.declared.Event.the-variants.{Entered, Executed, Halted, Lost}
-use Rattle.worked.specs.Rows.{CAUSE, CONDITION, ENTRY, ENTRY1, FLAG, G0, G1, INPUT, MISSED, MMU, OUTPUT, PC, PENDING, Row, SSP, USP, VIOLATION, kernel, paged, row, user, _≔_}
+use Rattle.worked.specs.Fields.{CAUSE, CONDITION, ENTRY, ENTRY1, FLAG, G0, G1, INPUT, MISSED, MMU, OUTPUT, PC, PENDING, SSP, USP, VIOLATION, _≔_}
+use Rattle.worked.specs.Rows.{Row, kernel, paged, row, user}
 
 -- "Misreadings met so far"
 unfoldable pub misreadings : List Row

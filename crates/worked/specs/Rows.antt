@@ -1,9 +1,7 @@
 -- Worked examples: how a row is written, and the starred examples of document 01, "Bench examples".
 -- Assumes nothing.
-use mathlib.Core.Bool.{cond}
 use mathlib.Core.List.{List, [], _∷_, _++_}
 use Prim.Native.Nat.{suc, zero, ℕ, _*_, _+_}
-use lib.Dec.{eqb}
 use lib.ListN.{replicate, set}
 use Rattle.image.specs.Decode.{conditionFrom}
 use Rattle.machine.specs.Enter.{Outcome}
@@ -13,76 +11,9 @@ use Rattle.machine.specs.declared.Event.{Event}
 use Rattle.machine.specs.declared.Event.the-variants.{Entered, Executed}
 use Rattle.machine.specs.declared.State.{State}
 use Rattle.word.specs.Word.{isSet, lower, upper}
+use Rattle.worked.specs.Fields.{CAUSE, CONDITION, ENTRY, FLAG, FP, G0, G1, INPUT, MISSED, MMU, OUTPUT, PC, PENDING, SSP, USP, VIOLATION, Setting, valueOf, valuesOf, _≔_}
 
--- ---- how a row is written
-
-infix 70 _≔_
--- `FLAG ≔ 0x4f`: the field FLAG of the state is 004Fh. `0x10 ≔ 0x1d01`: the word of memory at 0010h is 1D01h.
-pub data Setting : Type 0 where
-  _≔_ : ℕ → ℕ → Setting
-
--- the fields that rows name, by their places in the state image
-abbrev pub G0 : ℕ
-G0 = 0
-
-abbrev pub G1 : ℕ
-G1 = 1
-
-abbrev pub FP : ℕ
-FP = 12
-
-abbrev pub SSP : ℕ
-SSP = 13
-
-abbrev pub USP : ℕ
-USP = 14
-
-abbrev pub PC : ℕ
-PC = 15
-
-abbrev pub FLAG : ℕ
-FLAG = 16
-
-abbrev pub PENDING : ℕ
-PENDING = 17
-
-abbrev pub INPUT : ℕ
-INPUT = 18
-
-abbrev pub OUTPUT : ℕ
-OUTPUT = 19
-
-abbrev pub MMU : ℕ
-MMU = 20
-
-abbrev pub CONDITION : ℕ
-CONDITION = 21
-
-abbrev pub VIOLATION : ℕ
-VIOLATION = 22
-
-abbrev pub CAUSE : ℕ
-CAUSE = 23
-
-abbrev pub MISSED : ℕ
-MISSED = 24
-
--- TLB entries 0 and 1
-abbrev pub ENTRY : ℕ
-ENTRY = 25
-
-abbrev pub ENTRY1 : ℕ
-ENTRY1 = 26
-
--- the first value that is set for a field, or 0
-unfoldable pub valueOf : List Setting → ℕ → ℕ
-valueOf [] n = 0
-valueOf (k ≔ v ∷ xs) n = cond (eqb k n) v (valueOf xs n)
-
--- the values of `n` fields from `k` on
-unfoldable pub valuesOf : List Setting → ℕ → ℕ → List ℕ
-valuesOf xs k zero = []
-valuesOf xs k (suc n) = valueOf xs k ∷ valuesOf xs (k + 1) n
+-- ---- a row
 
 -- the state with these values, and 0 in every other field
 unfoldable pub stateOf : List Setting → State
