@@ -8,7 +8,8 @@ use Rattle.card.specs.Card.{cardValid, readAtMost, readFrom, readingOf, runsIn}
 use Rattle.card.specs.Command.{commandOf, goodOf, operandsOf, parsedOf}
 use Rattle.card.specs.Effect.{effectOf, executeOf, withRegister}
 use Rattle.decode.specs.Decode.{fieldsBad, firstOf, hasSecond, usesRx}
-use Rattle.decode.specs.Instructions.{costOf, eight, inModes, inRows, modeBits, opcodeOf, row, rows, single, statesAt}
+use Rattle.decode.specs.Instructions.{eight, row, rows, single}
+use Rattle.decode.specs.Opcode.{costOf, inModes, inRows, modeBits, opcodeOf, statesAt}
 use Rattle.image.specs.Decode.{conditionFrom, stateFrom}
 use Rattle.image.specs.Valid.{allZeros, flagGood, goodImage, machineValid, pendingGood, zerosGood}
 use Rattle.listing.specs.Listing.{endingText, lineOf, linesOf, listingOf, numberText, runsText}
@@ -17,7 +18,8 @@ use Rattle.machine.specs.Enter.{enterOf, pushed}
 use Rattle.machine.specs.Execute.{afterOperation, bodyOf, eventOf}
 use Rattle.status.specs.Flag.{flagWord}
 use Rattle.plan.specs.Need.{needOf}
-use Rattle.machine.specs.Plan.{interruptIn, planFetch, planFirst, planOf, planOperand, planSecond}
+use Rattle.machine.specs.Plan.{planFetch, planFirst, planOf, planOperand, planSecond}
+use Rattle.status.specs.Lines.{interruptIn}
 use Rattle.plan.specs.End.{endOf}
 use Rattle.machine.specs.Run.{runFrom, runOf}
 use Rattle.machine.specs.Step.{commit, stepOf}

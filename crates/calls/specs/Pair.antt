@@ -12,7 +12,8 @@ use lib.Dec.{ltb}
 use lib.ListN.{getD, length, length-replicate, length-set, replicate, set}
 use lib.Seq.{getD-set-other}
 use Rattle.decode.specs.Decode.{fieldsBad, firstOf, hasSecond, usesRx}
-use Rattle.decode.specs.Instructions.{eight, inModes, inRows, modeBits, opcodeOf, row, rows, single}
+use Rattle.decode.specs.Instructions.{eight, row, rows, single}
+use Rattle.decode.specs.Opcode.{inModes, inRows, modeBits, opcodeOf}
 use Rattle.image.specs.Decode.{conditionFrom, stateFrom}
 use Rattle.image.specs.Image.{entryBytes, imageOf}
 use Rattle.image.specs.Layout.{imageSize, mmuAt, pcAt, sspAt, tlbAt}
@@ -21,7 +22,8 @@ use Rattle.isolation.specs.Statement.{hasRight, visible}
 use Rattle.machine.specs.Enter.{enterOf, pushed}
 use Rattle.status.specs.Flag.{flagWord}
 use Rattle.plan.specs.Need.{needOf}
-use Rattle.machine.specs.Plan.{interruptIn, planFetch, planFirst, planOf, planOperand, planSecond}
+use Rattle.machine.specs.Plan.{planFetch, planFirst, planOf, planOperand, planSecond}
+use Rattle.status.specs.Lines.{interruptIn}
 use Rattle.plan.specs.End.{endOf}
 use Rattle.machine.specs.Run.{runFrom, runOf}
 use Rattle.machine.specs.Step.{commit, stepOf}

@@ -13,7 +13,8 @@ use Rattle.word.specs.Laws.{undefined-thirteen}
 use Rattle.word.specs.Word.{upper}
 use Rattle.decode.specs.Decode.{fieldsBad, firstIn, firstOf, hasSecond, rdBad, rdField, rxField, usesRx}
 use Rattle.decode.specs.Entry.{accessNumber, byNumber, entryOf, flowNumber, packed, packedRow, privilegeNumber, rdNumber, tableFrom, tableOf}
-use Rattle.decode.specs.Instructions.{Opcode, RdUse, Row, condition, costOf, eight, known, opcodeOf, register, row, rows, single, unknown, unused}
+use Rattle.decode.specs.Instructions.{RdUse, Row, condition, eight, register, row, rows, single, unused}
+use Rattle.decode.specs.Opcode.{Opcode, costOf, known, opcodeOf, unknown}
 use Rattle.decode.specs.Laws.{OpcodeHas, Small, all-small, inEachMode, inEachRow, opcode-has, small, small-row}
 use Rattle.decode.specs.Numbers.{access-back, accessFrom, flow-back, flowFrom, privilege-back, privilegeFrom}
 use Rattle.decode.specs.declared.DataAccess.{DataAccess}

@@ -7,7 +7,8 @@ use lib.IntN.{pos, _*ℤ_}
 use Rattle.word.specs.Jump.{conditionUndefined}
 use Rattle.word.specs.Signed.{signed4}
 use Rattle.word.specs.Word.{upper}
-use Rattle.decode.specs.Instructions.{Opcode, RdUse, Row, condition, costOf, known, opcodeOf, register, unknown, unused}
+use Rattle.decode.specs.Instructions.{RdUse, Row, condition, register, unused}
+use Rattle.decode.specs.Opcode.{Opcode, costOf, known, opcodeOf, unknown}
 use Rattle.decode.specs.declared.First.{First}
 use Rattle.decode.specs.declared.First.the-variants.{Defined, Undefined}
 use Rattle.decode.specs.declared.Instruction.{Instruction}

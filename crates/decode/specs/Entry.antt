@@ -4,7 +4,8 @@ use mathlib.Core.Bool.{cond}
 use mathlib.Core.List.{List, [], _∷_}
 use Prim.Native.Nat.{suc, zero, ℕ, _*_, _+_, _-_}
 use lib.Dec.{eqb, ltb}
-use Rattle.decode.specs.Instructions.{Opcode, RdUse, Row, condition, costOf, known, opcodeOf, register, rows, unknown, unused}
+use Rattle.decode.specs.Instructions.{RdUse, Row, condition, register, rows, unused}
+use Rattle.decode.specs.Opcode.{Opcode, costOf, known, opcodeOf, unknown}
 use Rattle.decode.specs.declared.DataAccess.{DataAccess}
 use Rattle.decode.specs.declared.DataAccess.the-variants.{Destination, Flag, None, Pop, PopTwo, Push, Source}
 use Rattle.decode.specs.declared.Flow.{Flow}

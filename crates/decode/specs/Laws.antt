@@ -12,7 +12,8 @@ use Rattle.word.specs.Cases.{either, rest, this}
 use Rattle.word.specs.Word.{upper}
 use Rattle.decode.specs.Code.{HALT, IN, OUT, RETI}
 use Rattle.decode.specs.Decode.{fieldsBad, firstIn, firstOf, rdField, rxField, shapeOf}
-use Rattle.decode.specs.Instructions.{Opcode, Row, addStates, costOf, divStates, eight, inModes, inRows, known, modeBits, opcodeOf, row, rows, shiftStates, single, statesAt, unknown}
+use Rattle.decode.specs.Instructions.{Row, addStates, divStates, eight, row, rows, shiftStates, single}
+use Rattle.decode.specs.Opcode.{Opcode, costOf, inModes, inRows, known, modeBits, opcodeOf, statesAt, unknown}
 use Rattle.decode.specs.declared.First.{First}
 use Rattle.decode.specs.declared.First.the-variants.{Defined, Undefined}
 use Rattle.decode.specs.declared.Privilege.{Privilege}

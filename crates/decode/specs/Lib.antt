@@ -5,3 +5,4 @@ pub mod Instructions
 pub mod Laws
 pub mod Mode
 pub mod Numbers
+pub mod Opcode

@@ -7,7 +7,8 @@ use native.Mathlib.Omega.{arith}
 use lib.ListN.{getD, length, length-set, set}
 use Rattle.decode.specs.Code.{CMP, LD}
 use Rattle.decode.specs.Decode.{rdField}
-use Rattle.decode.specs.Instructions.{addStates, eight, statesAt}
+use Rattle.decode.specs.Instructions.{addStates, eight}
+use Rattle.decode.specs.Opcode.{statesAt}
 use Rattle.decode.specs.declared.Flow.the-variants as flow
 use Rattle.machine.specs.Execute.{aluOf}
 use Rattle.word.specs.Alu.{places, subOf}

@@ -5,7 +5,8 @@ use mathlib.Core.List.{List}
 use mathlib.Core.Path.{_≡_}
 use Prim.Native.Nat.{ℕ}
 use Rattle.decode.specs.Decode.{fieldsBad, firstOf, hasSecond, operandOf, rdField, rxField, shapeOf}
-use Rattle.decode.specs.Instructions.{Row, costOf, known, opcodeOf}
+use Rattle.decode.specs.Instructions.{Row}
+use Rattle.decode.specs.Opcode.{costOf, known, opcodeOf}
 use Rattle.decode.specs.declared.Instruction.{Instruction}
 use Rattle.decode.specs.declared.Operand.{Operand}
 use Rattle.decode.specs.declared.Privilege.the-variants.{Anyone}

@@ -8,7 +8,8 @@ use native.Mathlib.Omega.{arith}
 use lib.ListN.{getD, length, length-set, set}
 use Rattle.decode.specs.Code.{CALL, JUMP, NO, PUSH, RET, ST}
 use Rattle.decode.specs.Decode.{rdField, rxField, usesRx}
-use Rattle.decode.specs.Instructions.{addStates, condition, costOf, divStates, eight, inModes, inRows, modeBits, opcodeOf, register, row, rows, shiftStates, single, statesAt, unused}
+use Rattle.decode.specs.Instructions.{addStates, condition, divStates, eight, register, row, rows, shiftStates, single, unused}
+use Rattle.decode.specs.Opcode.{costOf, inModes, inRows, modeBits, opcodeOf, statesAt}
 use Rattle.decode.specs.declared.DataAccess.the-variants as data-access
 use Rattle.decode.specs.declared.Flow.the-variants as flow
 use Rattle.status.specs.Flag.{holds}

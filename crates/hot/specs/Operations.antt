@@ -10,7 +10,8 @@ use lib.Dec.{eqb}
 use lib.ListN.{getD, length, length-set, set}
 use Rattle.decode.specs.Code.{CALL, CMP, JUMP, LD, NO, POP, PUSH, RET, ST}
 use Rattle.decode.specs.Decode.{fieldsBad, firstOf, hasSecond, operandOf, rdField, rxField, usesRx}
-use Rattle.decode.specs.Instructions.{RdUse, addStates, condition, costOf, divStates, eight, inModes, inRows, modeBits, opcodeOf, register, row, rows, shiftStates, single, statesAt, unused}
+use Rattle.decode.specs.Instructions.{RdUse, addStates, condition, divStates, eight, register, row, rows, shiftStates, single, unused}
+use Rattle.decode.specs.Opcode.{costOf, inModes, inRows, modeBits, opcodeOf, statesAt}
 use Rattle.decode.specs.declared.DataAccess.{DataAccess}
 use Rattle.decode.specs.declared.DataAccess.the-variants as data-access
 use Rattle.decode.specs.declared.Flow.{Flow}

@@ -8,7 +8,8 @@ use native.Mathlib.Omega.{arith}
 use lib.Dec.{eqb}
 use lib.ListN.{getD}
 use Rattle.decode.specs.Code.{ADD, ADDS, AND, CMP, DIV, LD, MOD, MUL, OR, SHLA, SHLL, SHRA, SHRL, SUB, XOR}
-use Rattle.decode.specs.Instructions.{RdUse, Row, addStates, costOf, divStates, eight, inModes, inRows, known, modeBits, opcodeOf, register, row, rows, shiftStates, single, statesAt}
+use Rattle.decode.specs.Instructions.{RdUse, Row, addStates, divStates, eight, register, row, rows, shiftStates, single}
+use Rattle.decode.specs.Opcode.{costOf, inModes, inRows, known, modeBits, opcodeOf, statesAt}
 use Rattle.decode.specs.declared.DataAccess.{DataAccess}
 use Rattle.decode.specs.declared.DataAccess.the-variants.{Source}
 use Rattle.decode.specs.declared.Flow.{Flow}

@@ -6,7 +6,8 @@ use Prim.Native.Nat.{ℕ, _%_, _<_}
 use native.Mathlib.Omega.{arith}
 use lib.ListN.{getD}
 use Rattle.decode.specs.Decode.{rxField, usesRx}
-use Rattle.decode.specs.Instructions.{addStates, eight, statesAt}
+use Rattle.decode.specs.Instructions.{addStates, eight}
+use Rattle.decode.specs.Opcode.{statesAt}
 use Rattle.machine.specs.Register.{regOf}
 use Rattle.machine.specs.declared.State.{State}
 use Rattle.mmu.specs.declared.Right.the-variants.{Execute, Read}

@@ -2,39 +2,32 @@
 -- first ... Else: fetch, undefined (14), privilege (13), second word, operand access, zero divisor (12)." The state goes through the
 -- stages with the TLB as the accesses leave it, and nothing else of it changes.
 -- Assumes nothing.
-use mathlib.Core.Bool.{Bool, cond, false, not, true, _&&_, _||_}
+use mathlib.Core.Bool.{Bool, cond, not, _&&_}
 use mathlib.Core.List.{List}
-use Prim.Native.Nat.{ℕ, _+_}
-use lib.Count.{trailingZeros}
-use lib.Dec.{eqb}
+use Prim.Native.Nat.{ℕ}
 use Rattle.decode.specs.Decode.{firstOf, instructionOf}
 use Rattle.decode.specs.declared.First.{First}
 use Rattle.decode.specs.declared.First.the-variants.{Defined, Undefined}
-use Rattle.decode.specs.declared.Flow.{Flow}
-use Rattle.decode.specs.declared.Flow.the-variants as flow
 use Rattle.decode.specs.declared.Instruction.{Instruction}
 use Rattle.decode.specs.declared.Privilege.{Privilege}
-use Rattle.decode.specs.declared.Privilege.the-variants.{Anyone, Kernel, Ports}
 use Rattle.decode.specs.declared.Shape.{Shape}
-use Rattle.mmu.specs.Access.{wordAccess}
 use Rattle.mmu.specs.Memory.{wordAt}
 use Rattle.mmu.specs.declared.Access.{Access}
 use Rattle.mmu.specs.declared.Access.the-variants as access
 use Rattle.mmu.specs.declared.Accessed.{Accessed}
-use Rattle.mmu.specs.declared.Right.the-variants.{Execute}
 use Rattle.plan.specs.End.{endOf, notPermitted, undefinedWord}
 use Rattle.plan.specs.Need.{addressOf, needOf, valueStored}
 use Rattle.plan.specs.Transfer.{fetchOf, transferOf}
 use Rattle.status.specs.Flag.{permittedIn, takenOn}
+use Rattle.status.specs.Lines.{interruptIn, lowestLine}
 use Rattle.word.specs.Word.{plus}
 use Rattle.machine.specs.Flag.{flagOf}
 use Rattle.machine.specs.Register.{regOf, spOf}
 use Rattle.machine.specs.State.{withTlb}
 use Rattle.plan.specs.declared.Need.{Need}
 use Rattle.plan.specs.declared.Plan.{Plan}
-use Rattle.plan.specs.declared.Plan.the-variants.{Interrupt, Perform, Trap, Violation}
+use Rattle.plan.specs.declared.Plan.the-variants.{Interrupt, Trap, Violation}
 use Rattle.machine.specs.declared.Planned.{Planned}
-use Rattle.plan.specs.declared.Ready.{Ready}
 use Rattle.machine.specs.declared.State.{State}
 use Rattle.plan.specs.declared.Transfer.{Transfer}
 use Rattle.plan.specs.declared.Transfer.the-variants as transfer
@@ -60,24 +53,13 @@ fetched st a = fetchOf (translates st) (st .tlb) a
 abbrev pub after : State → Accessed → State
 after st x = withTlb st (x .tlb)
 
--- ---- interrupts
-
--- "if E=1 and a line is pending"
-unfoldable pub interruptIn : Bool → ℕ → Bool
-interruptIn e pending = e && not (eqb pending 0)
-
+-- an interrupt is due
 abbrev pub interrupted : State → Bool
 interrupted st = interruptIn (st .flags .e) (st .pending)
-
--- "the lowest": the number of zeros below the lowest 1
-abbrev pub lowestLine : ℕ → ℕ
-lowestLine lines = trailingZeros 16 lines
 
 -- a jump is taken, by the condition of this number
 abbrev pub taken : State → ℕ → Bool
 taken st rd = takenOn rd (st .flags .v) (st .flags .c) (st .flags .s) (st .flags .z)
-
--- ---- the stages
 
 -- the transfer was done, or the kernel is entered
 abbrev pub planTransfer : Transfer → State → Instruction → ℕ → ℕ → ℕ → Plan

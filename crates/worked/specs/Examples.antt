@@ -5,14 +5,16 @@ use mathlib.Core.Path.{refl, _≡_}
 use Prim.Native.Nat.{ℕ}
 use lib.Count.{trailingZeros}
 use Rattle.decode.specs.Decode.{fieldsBad, firstOf, hasSecond, operandOf, usesRx}
-use Rattle.decode.specs.Instructions.{Opcode, addStates, costOf, divStates, eight, inModes, inRows, known, modeBits, opcodeOf, row, rows, shiftStates, single, statesAt, unknown}
+use Rattle.decode.specs.Instructions.{addStates, divStates, eight, row, rows, shiftStates, single}
+use Rattle.decode.specs.Opcode.{Opcode, costOf, inModes, inRows, known, modeBits, opcodeOf, statesAt, unknown}
 use Rattle.image.specs.Decode.{conditionFrom}
 use Rattle.machine.specs.Answers.{statesOf}
 use Rattle.machine.specs.Enter.{enterOf, pushed}
 use Rattle.machine.specs.Execute.{afterOperation, aluOf, bodyOf, eventOf}
 use Rattle.status.specs.Flag.{flagWord}
 use Rattle.plan.specs.Need.{addressOf, loadNeed, needOf, storeNeed, valueStored}
-use Rattle.machine.specs.Plan.{interruptIn, planFetch, planFirst, planOf, planOperand, planSecond}
+use Rattle.machine.specs.Plan.{planFetch, planFirst, planOf, planOperand, planSecond}
+use Rattle.status.specs.Lines.{interruptIn}
 use Rattle.plan.specs.End.{endOf}
 use Rattle.machine.specs.Ports.{causeAfter, mmuAfter, outputAfter, portIn, tlbAfter, tlbPort}
 use Rattle.machine.specs.Register.{regIn, regsAfter, spIn, sspAfter, sspWith, uspAfter, uspWith}

@@ -2,7 +2,8 @@
 -- Assumes nothing.
 use mathlib.Core.Path.{refl}
 use Rattle.decode.specs.Entry.{byNumber, entryOf, tableFrom, tableOf}
-use Rattle.decode.specs.Instructions.{addStates, costOf, divStates, eight, inModes, inRows, modeBits, opcodeOf, row, rows, shiftStates, single, statesAt}
+use Rattle.decode.specs.Instructions.{addStates, divStates, eight, row, rows, shiftStates, single}
+use Rattle.decode.specs.Opcode.{costOf, inModes, inRows, modeBits, opcodeOf, statesAt}
 use Rattle.decode.proofs.table.entries.Statement.{statement}
 use Rattle.decode.proofs.table.entries.Tie as tie
 
