@@ -4,6 +4,7 @@ mod opcode;
 mod operands;
 mod table;
 
+pub use opcode::NO_CONDITION;
 pub use opcode::first_word;
 pub use operands::decoded;
 pub use table::Table;

@@ -11,6 +11,12 @@ use crate::Shape;
 use crate::table::NUMBERS;
 use crate::table::Table;
 
+// A used field that is no register.
+const NO_REGISTER: u16 = 15;
+
+// A jump's condition that is undefined.
+pub const NO_CONDITION: u16 = 13;
+
 fn privilege_from(n: u16) -> Privilege
     ensures { λ r. ⌜ r ≡ privilegeFrom n ⌝ }
 {
@@ -73,9 +79,9 @@ pub fn first_word(table: &Table, word: u16) -> First
     let row = table[number];
     let rd = word / 16 % 16;
     let rx = word % 16;
-    let bad_rd = (rd == 15) & (row % 4 == 1);
-    let bad_condition = (rd == 13) & (row % 4 == 2);
-    let bad_rx = (rx == 15) & uses_rx(mode);
+    let bad_rd = (rd == NO_REGISTER) & (row % 4 == 1);
+    let bad_condition = (rd == NO_CONDITION) & (row % 4 == 2);
+    let bad_rx = (rx == NO_REGISTER) & uses_rx(mode);
     if bad_rd | bad_condition | bad_rx {
         return First::Undefined;
     }

@@ -7,6 +7,7 @@ ghost use Rattle.hot.specs.Rows.{addCost, loadCost};
 ghost use Rattle.hot.specs.Sources.{modeOf};
 ghost use Rattle.hot.specs.Tells.{Divided, Operates};
 use crate::Hot;
+use crate::register::USP;
 use crate::source::Source;
 use decode::code;
 use pages::NONE;
@@ -47,7 +48,7 @@ impl Hot {
         ensures { λ r. ⌜ Operates (now (regs .entry)) self w x (now (regs .exit)) r ⌝ }
     {
         let d = (w / 16 % 16) as usize;
-        if 14 <= d {
+        if USP <= d {
             return self.stop();
         }
         if NONE <= x.value {

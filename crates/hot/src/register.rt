@@ -4,6 +4,13 @@ ghost use Prim.Native.Nat.{_%_, _<_};
 ghost use Rattle.hot.specs.Fields.{RegRead};
 use pages::NONE;
 
+// The places of FP and of SP among the registers. 14, USP, is no place here.
+pub const FP: usize = 12;
+
+pub const SP: usize = 13;
+
+pub const USP: usize = 14;
+
 pub fn wide(x: u16) -> u32
     ensures { λ r. ⌜ r ≡ x ⌝ }
 {
@@ -15,7 +22,7 @@ pub fn register(regs: &[u16; 16], n: u16) -> u32
     ensures { λ r. ⌜ (r < 65536 → RegRead (now (regs .entry)) (n % 16) r) ⌝ }
 {
     let k = (n % 16) as usize;
-    if 14 <= k {
+    if USP <= k {
         return NONE;
     }
     wide(regs[k])

@@ -5,6 +5,7 @@ ghost use lib.ListN.{length};
 ghost use Rattle.decode.specs.Decode.{rxField};
 ghost use Rattle.hot.specs.Fields.{IndexedPlace, shortOf};
 ghost use Rattle.hot.specs.Sources.{SourceIs, framePlace};
+use crate::register::FP;
 use crate::register::register;
 use pages::NONE;
 use pages::Width;
@@ -32,7 +33,7 @@ pub fn frame_place(regs: &[u16; 16], w: u16) -> u16
     ensures { λ r. ⌜ r ≡ framePlace (now (regs .entry)) w ⌝ }
 {
     let d = short(w);
-    plus(regs[12], plus(d, d))
+    plus(regs[FP], plus(d, d))
 }
 
 // A displacement plus a register.

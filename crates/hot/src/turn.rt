@@ -7,11 +7,14 @@ ghost use Rattle.word.specs.Word.{upper};
 ghost use Rattle.hot.specs.Moves.{Added, Stored};
 ghost use Rattle.hot.specs.Tells.{Tells};
 use crate::Hot;
+use crate::register::SP;
+use crate::register::USP;
 use crate::register::register;
 use crate::register::wide;
 use crate::source::frame_place;
 use crate::source::indexed_place;
 use crate::source::source_of;
+use decode::NO_CONDITION;
 use decode::code;
 use mmu::Right;
 use pages::NONE;
@@ -46,7 +49,7 @@ impl Hot {
             return self.stop();
         }
         let n = w / 16 % 16;
-        if n == 13 {
+        if n == NO_CONDITION {
             return self.stop();
         }
         let add = added(regs, mode, w);
@@ -80,9 +83,9 @@ impl Hot {
         if NONE <= d {
             return self.stop();
         }
-        let sp = minus(regs[13], 2);
+        let sp = minus(regs[SP], 2);
         if write(map, mem, Width::Word, sp as u32, plus(self.pc, 4)) {
-            regs[13] = sp;
+            regs[SP] = sp;
             return self.to(((d + add) % 65536) as u16, 6);
         }
         self.stop()
@@ -96,9 +99,9 @@ impl Hot {
         if NONE <= v {
             return self.stop();
         }
-        let sp = minus(regs[13], 2);
+        let sp = minus(regs[SP], 2);
         if write(map, mem, Width::Word, sp as u32, v as u16) {
-            regs[13] = sp;
+            regs[SP] = sp;
             return self.to(plus(self.pc, 2), 5);
         }
         self.stop()
@@ -109,15 +112,15 @@ impl Hot {
         ensures { λ r. ⌜ Tells (now (map .entry)) (now (regs .entry)) (now (mem .entry)) self w (now (regs .exit)) (now (mem .entry)) r ⌝ }
     {
         let d = (w / 16 % 16) as usize;
-        if 14 <= d {
+        if USP <= d {
             return self.stop();
         }
-        let sp = regs[13];
+        let sp = regs[SP];
         let x = read(map, mem, Width::Word, wide(sp));
         if NONE <= x {
             return self.stop();
         }
-        regs[13] = plus(sp, 2);
+        regs[SP] = plus(sp, 2);
         regs[d] = x as u16;
         self.to(plus(self.pc, 2), 6)
     }
@@ -130,12 +133,12 @@ impl Hot {
         if mode != 0 {
             return self.stop();
         }
-        let sp = regs[13];
+        let sp = regs[SP];
         let x = read(map, mem, Width::Word, wide(sp));
         if NONE <= x {
             return self.stop();
         }
-        regs[13] = plus(sp, 2);
+        regs[SP] = plus(sp, 2);
         self.to(x as u16, 6)
     }
 

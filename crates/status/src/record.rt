@@ -5,14 +5,24 @@ ghost use Rattle.status.specs.Fault as def;
 use crate::FaultRecord;
 use mmu::Fault;
 
+// The numbers of the faults of an access.
+const MISSING_PAGE: u8 = 10;
+
+const VIOLATION: u8 = 11;
+
+// The bits of a cause.
+const NO_RIGHT: u8 = 1;
+
+const ODD_ADDRESS: u8 = 2;
+
 // The number that an access enters with that is not granted.
 pub fn fault_number(fault: Fault) -> u8
     ensures { λ r. ⌜ r ≡ faultNumber fault ⌝ }
 {
     match fault {
-        Fault::Odd => 11,
-        Fault::Missing => 10,
-        Fault::Refused => 11,
+        Fault::Odd => VIOLATION,
+        Fault::Missing => MISSING_PAGE,
+        Fault::Refused => VIOLATION,
     }
 }
 
@@ -24,7 +34,7 @@ impl FaultRecord {
         match fault {
             Fault::Odd => FaultRecord {
                 violation: a,
-                cause: self.cause | 2,
+                cause: self.cause | ODD_ADDRESS,
                 missed: self.missed,
             },
             Fault::Missing => FaultRecord {
@@ -34,7 +44,7 @@ impl FaultRecord {
             },
             Fault::Refused => FaultRecord {
                 violation: a,
-                cause: self.cause | 1,
+                cause: self.cause | NO_RIGHT,
                 missed: self.missed,
             },
         }
