@@ -1,4 +1,4 @@
--- What the end of reading says: a buffer that is not full, and no read failed, holds all of the input.
+-- What the end of reading says: where the buffer is not full and no read failed, the last answer is 0.
 -- Assumes nothing.
 use mathlib.Core.Bool.{Bool, cond, true}
 use mathlib.Core.List.{List}
