@@ -137,9 +137,9 @@ fn held(place: &str, found: &Numbers, list: &[(&str, usize)]) -> bool {
 #[test]
 fn library() {
     let image = [&IMAGE[..], &[("IMAGE", image::IMAGE)]].concat();
-    let code = held("crates/image/src", &in_code("crates/image/src"), &image);
-    let definitions = held("crates/image/specs", &in_definitions("crates/image/specs"), &image);
-    assert!(code || definitions, "crates/image names no offset");
+    let code = held("crates/layout/src", &in_code("crates/layout/src"), &image);
+    let definitions = held("crates/layout/specs", &in_definitions("crates/layout/specs"), &image);
+    assert!(code || definitions, "crates/layout names no offset");
     // The report's size is used by others, so the code may name it where it does not name the offsets.
     let size = [("REPORT", report::REPORT)];
     let code = in_code("crates/report/src");

@@ -5,7 +5,7 @@ use mathlib.Core.List.{List}
 use Prim.Native.Nat.{ℕ, _+_}
 use lib.ListN.{replicate, set}
 use Rattle.card.specs.Call.{cardCall, filledPart}
-use Rattle.image.specs.Layout.{flagAt, imageSize}
+use Rattle.layout.specs.Layout.{flagAt, imageSize}
 use Rattle.listing.specs.Listing.{listingOf}
 
 abbrev pub zeroMemory : List ℕ

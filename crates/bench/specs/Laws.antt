@@ -8,10 +8,11 @@ use native.Mathlib.Omega.{arith}
 use borrow.Author.Tests.{le-leb}
 use lib.ListN.{drop, length, length-replicate, take}
 use lib.Seq.{take-all, take-at}
-use Rattle.card.specs.Call.{cardCall, filledPart}
-use Rattle.card.specs.Card.{cardValid, readingOf, runsIn}
-use Rattle.card.specs.Laws.{part-short, runs-bound}
-use Rattle.image.specs.Valid.{allZeros, flagGood, goodImage, machineValid, pendingGood, zerosGood}
+use Rattle.card.specs.Call.{cardCall, filledPart, cardValid}
+use Rattle.command.specs.Card.{readingOf, runsIn}
+use Rattle.card.specs.Laws.{part-short}
+use Rattle.command.specs.Laws.{runs-bound}
+use Rattle.layout.specs.Valid.{allZeros, flagGood, goodImage, machineValid, pendingGood, zerosGood}
 use Rattle.refusal.specs.Refusal.{andThen, reportFits}
 use Rattle.refusal.specs.declared.Validity.{Validity}
 use Rattle.refusal.specs.declared.Validity.the-variants.{Good, Refused}

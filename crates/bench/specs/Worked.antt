@@ -3,32 +3,33 @@
 use mathlib.Core.List.{List, [], _++_, _∷_}
 use mathlib.Core.Path.{refl, _≡_}
 use Prim.Native.Nat.{ℕ}
-use Rattle.card.specs.Call.{cardCall, filledPart}
-use Rattle.card.specs.Card.{cardValid, readAtMost, readFrom, readingOf, runsIn}
-use Rattle.card.specs.Command.{commandOf, goodOf, operandsOf, parsedOf}
-use Rattle.card.specs.Effect.{effectOf, executeOf, withRegister}
+use Rattle.card.specs.Call.{cardCall, filledPart, cardValid}
+use Rattle.command.specs.Card.{readAtMost, readFrom, readingOf, runsIn}
+use Rattle.command.specs.Command.{commandOf, goodOf, operandsOf, parsedOf}
+use Rattle.card.specs.Effect.{effectOf, executeOf}
+use Rattle.settings.specs.Settings.{withRegister}
 use Rattle.decode.specs.Decode.{fieldsBad, firstOf, hasSecond, usesRx}
 use Rattle.decode.specs.Instructions.{eight, row, rows, single}
 use Rattle.decode.specs.Opcode.{costOf, inModes, inRows, modeBits, opcodeOf, statesAt}
 use Rattle.image.specs.Decode.{conditionFrom, stateFrom}
-use Rattle.image.specs.Valid.{allZeros, flagGood, goodImage, machineValid, pendingGood, zerosGood}
+use Rattle.layout.specs.Valid.{allZeros, flagGood, goodImage, machineValid, pendingGood, zerosGood}
 use Rattle.listing.specs.Listing.{endingText, lineOf, linesOf, listingOf, numberText, runsText}
-use Rattle.listing.specs.Text.{ascii, decimalOf, hexOf}
+use Rattle.text.specs.Text.{ascii, decimalOf, hexOf}
 use Rattle.machine.specs.Enter.{enterOf, pushed}
 use Rattle.machine.specs.Execute.{afterOperation, bodyOf, eventOf}
 use Rattle.status.specs.Flag.{flagWord}
-use Rattle.plan.specs.Need.{needOf}
+use Rattle.transfer.specs.Need.{needOf}
 use Rattle.machine.specs.Plan.{planFetch, planFirst, planOf, planOperand, planSecond}
 use Rattle.status.specs.Lines.{interruptIn}
 use Rattle.plan.specs.End.{endOf}
 use Rattle.machine.specs.Run.{runFrom, runOf}
 use Rattle.machine.specs.Step.{commit, stepOf}
-use Rattle.plan.specs.Transfer.{transferOf}
+use Rattle.transfer.specs.Transfer.{transferOf}
 use Rattle.mmu.specs.Access.{byteAccess, wordAccess}
-use Rattle.mmu.specs.Memory.{stored}
+use Rattle.memory.specs.Memory.{stored}
 use Rattle.refusal.specs.Refusal.{reportFits}
 use Rattle.report.specs.Report.{reportOf}
-use Rattle.word.specs.Bytes.{wordBytes}
+use Rattle.endian.specs.Bytes.{wordBytes}
 use Rattle.bench.specs.Bench.{benchOf}
 
 -- F000h, SVC, at 0006h; SSP 1000h; a run of 10 steps; FF00h, HALT, at 0000h; a run of 2 steps

@@ -3,8 +3,8 @@ ghost use mathlib.Core.Path.{_≡_};
 ghost use Prim.Native.Nat.{_≤_};
 ghost use lib.ListN.{length, take};
 ghost use Rattle.bench.specs.Bench.{benchOf};
-use image::FLAG;
-use image::IMAGE;
+use layout::FLAG;
+use layout::IMAGE;
 
 // Bit P of FLAG.
 const PRIVILEGED: u8 = 0x40;

@@ -15,19 +15,20 @@ use Rattle.decode.specs.Decode.{fieldsBad, firstOf, hasSecond, usesRx}
 use Rattle.decode.specs.Instructions.{eight, row, rows, single}
 use Rattle.decode.specs.Opcode.{inModes, inRows, modeBits, opcodeOf}
 use Rattle.image.specs.Decode.{conditionFrom, stateFrom}
-use Rattle.image.specs.Image.{entryBytes, imageOf}
-use Rattle.image.specs.Layout.{imageSize, mmuAt, pcAt, sspAt, tlbAt}
-use Rattle.image.specs.Valid.{allZeros, flagGood, goodImage, machineValid, pendingGood, zerosGood}
+use Rattle.layout.specs.Entries.{entryBytes}
+use Rattle.image.specs.Image.{imageOf}
+use Rattle.layout.specs.Layout.{imageSize, mmuAt, pcAt, sspAt, tlbAt}
+use Rattle.layout.specs.Valid.{allZeros, flagGood, goodImage, machineValid, pendingGood, zerosGood}
 use Rattle.isolation.specs.Statement.{hasRight, visible}
 use Rattle.machine.specs.Enter.{enterOf, pushed}
 use Rattle.status.specs.Flag.{flagWord}
-use Rattle.plan.specs.Need.{needOf}
+use Rattle.transfer.specs.Need.{needOf}
 use Rattle.machine.specs.Plan.{planFetch, planFirst, planOf, planOperand, planSecond}
 use Rattle.status.specs.Lines.{interruptIn}
 use Rattle.plan.specs.End.{endOf}
 use Rattle.machine.specs.Run.{runFrom, runOf}
 use Rattle.machine.specs.Step.{commit, stepOf}
-use Rattle.plan.specs.Transfer.{transferOf}
+use Rattle.transfer.specs.Transfer.{transferOf}
 use Rattle.mmu.specs.Access.{byEntry, byTlb, byteAccess, wordAccess}
 use Rattle.mmu.specs.Lookup.{lookupFrom, lookupOf}
 use Rattle.refusal.specs.Refusal.{reportFits}
@@ -37,7 +38,7 @@ use Rattle.report.specs.Report.{reportOf}
 use Rattle.roundtrip.specs.Each.{each-set}
 use Rattle.roundtrip.specs.Statement.{Byte, Bytes}
 use Rattle.tac.specs.Call.{runCall, runValid}
-use Rattle.word.specs.Bytes.{wordBytes, wordFrom}
+use Rattle.endian.specs.Bytes.{wordBytes, wordFrom}
 use Rattle.word.specs.Cases.{rest, this}
 use Rattle.word.specs.Word.{upper}
 use Rattle.calls.specs.Statement.{Given, Shared}

@@ -8,12 +8,12 @@ use mathlib.Core.Path.{_≡_}
 use Prim.Native.Nat.{ℕ, _+_}
 use lib.ListN.{getD, length}
 use Rattle.image.specs.Decode.{stateFrom}
-use Rattle.image.specs.Layout.{imageSize, pcAt, sspAt}
+use Rattle.layout.specs.Layout.{imageSize, pcAt, sspAt}
 use Rattle.isolation.specs.Statement.{Alike, Pushed, UserMode, hasRight}
 use Rattle.machine.specs.Answers.{endingNumber}
 use Rattle.machine.specs.Enter.{vectorOf}
 use Rattle.machine.specs.declared.Ending.the-variants as ending
-use Rattle.mmu.specs.Memory.{wordAt}
+use Rattle.memory.specs.Memory.{wordAt}
 use Rattle.mmu.specs.declared.Right.the-variants.{Write}
 use Rattle.refusal.specs.Call.{Call}
 use Rattle.refusal.specs.Refusal.{answerOf}
@@ -22,7 +22,7 @@ use Rattle.refusal.specs.declared.Validity.the-variants.{Good, Refused}
 use Rattle.report.specs.Layout.{endingAt, numberAt}
 use Rattle.roundtrip.specs.Statement.{Bytes}
 use Rattle.tac.specs.Call.{runCall, runValid}
-use Rattle.word.specs.Bytes.{byteFrom, wordFrom}
+use Rattle.endian.specs.Bytes.{byteFrom, wordFrom}
 use Rattle.word.specs.Word.{upper}
 
 -- ---- kernel entries, by the bytes that a call leaves

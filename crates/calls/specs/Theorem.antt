@@ -11,10 +11,11 @@ use lib.Dec.{eqb}
 use lib.ListN.{drop, getD, length, set}
 use lib.Seq.{getD-set-other}
 use Rattle.image.specs.Decode.{stateFrom}
-use Rattle.image.specs.Image.{entryBytes, imageOf}
-use Rattle.image.specs.Laws.{machine-good}
-use Rattle.image.specs.Layout.{pcAt, sspAt}
-use Rattle.image.specs.Valid.{goodImage, machineValid}
+use Rattle.layout.specs.Entries.{entryBytes}
+use Rattle.image.specs.Image.{imageOf}
+use Rattle.layout.specs.Laws.{machine-good}
+use Rattle.layout.specs.Layout.{pcAt, sspAt}
+use Rattle.layout.specs.Valid.{goodImage, machineValid}
 use Rattle.isolation.specs.Isolation.{isolated}
 use Rattle.isolation.specs.Statement as runs
 use Rattle.machine.specs.Answers.{endingEntered, endingNumber}
@@ -24,7 +25,7 @@ use Rattle.machine.specs.State.{withPc}
 use Rattle.machine.specs.declared.Ending.{Ending}
 use Rattle.machine.specs.declared.Ending.the-variants as ending
 use Rattle.machine.specs.declared.State.{State}
-use Rattle.mmu.specs.Memory.{wordAt}
+use Rattle.memory.specs.Memory.{wordAt}
 use Rattle.refusal.specs.Laws.{then-good}
 use Rattle.refusal.specs.Refusal.{reportFits}
 use Rattle.refusal.specs.declared.Refusal.{Refusal}
@@ -36,7 +37,7 @@ use Rattle.roundtrip.specs.Ranged.{ranged-decoded}
 use Rattle.roundtrip.specs.Runs.{run-good, run-ranged}
 use Rattle.roundtrip.specs.Statement.{Bytes, GoodState, Ranged}
 use Rattle.tac.specs.Call.{ranCall, runCall, runValid}
-use Rattle.word.specs.Bytes.{wordBytes, wordFrom}
+use Rattle.endian.specs.Bytes.{wordBytes, wordFrom}
 use Rattle.calls.specs.Statement.{AtHandler, Enters, Given, IsolatedCalls, PcByte, Shared, Spared, refusedCall}
 
 -- ---- PC in an image

@@ -10,12 +10,12 @@ use lib.Seq.{drop-at, drop-drop, length-take-le, take-at}
 use Rattle.machine.specs.declared.State.{State}
 use Rattle.refusal.specs.declared.Validity.{Validity}
 use Rattle.report.specs.Layout.{reportSize}
-use Rattle.card.specs.Card.{isRun, readFrom, reading, runsIn}
+use Rattle.command.specs.Card.{isRun, readFrom, reading, runsIn}
 use Rattle.card.specs.Effect.{behind, Effect, effect, effectOf, executeOf}
 use Rattle.card.specs.Laws.{reports-long}
 use Rattle.card.specs.declared.Progress.{Progress}
-use Rattle.card.specs.declared.Command.{Command}
-use Rattle.card.proofs.Turns.{Turn}
+use Rattle.command.specs.declared.Command.{Command}
+use Rattle.command.specs.Turns.{Turn}
 
 abbrev pub progress : State → ℕ → Progress
 progress st filled = record { state = st; filled = filled }

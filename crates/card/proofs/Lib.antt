@@ -1,4 +1,1 @@
-pub mod Counts
 pub mod Executes
-pub mod Operands
-pub mod Turns

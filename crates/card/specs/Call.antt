@@ -1,4 +1,4 @@
--- What a card's call answers and leaves in the lent buffers.
+-- The tests of a card's call, and what it answers and leaves in the lent buffers.
 -- Assumes nothing.
 use mathlib.Core.Bool.{cond}
 use mathlib.Core.List.{List, [], _++_}
@@ -10,10 +10,18 @@ use Rattle.image.specs.Decode.{stateFrom}
 use Rattle.image.specs.Image.{imageOf}
 use Rattle.refusal.specs.declared.Validity.{Validity}
 use Rattle.refusal.specs.declared.Validity.the-variants.{Good, Refused}
+use Rattle.layout.specs.Valid.{machineValid}
+use Rattle.refusal.specs.Refusal.{andThen, reportFits}
 use Rattle.report.specs.Layout.{reportSize}
-use Rattle.card.specs.Card.{readingOf, runsIn, cardValid}
+use Rattle.command.specs.Card.{readingOf, runsIn}
 use Rattle.card.specs.Effect.{Effect, executeOf}
-use Rattle.card.specs.declared.Command.{Command}
+use Rattle.command.specs.declared.Command.{Command}
+
+-- the tests of a card's call: memory and image (1 to 3), the card (4 to 7), then "report under 12 × runs" (8)
+unfoldable pub cardValid : ℕ → List ℕ → List ℕ → ℕ → Validity
+cardValid long image card report =
+    andThen (andThen (machineValid long image) ((readingOf card) .validity))
+    (reportFits report (reportSize * runsIn ((readingOf card) .commands)))
 
 -- the number of report bytes filled, 12 × runs, "bytes behind it keep their values"
 abbrev pub executedCall : ℕ → Effect → List ℕ → Call

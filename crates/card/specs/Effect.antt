@@ -1,18 +1,16 @@
 -- What a card's commands do to the state, to memory and to the report. Document 01, "Bench card and its listing".
 -- Assumes nothing.
-use mathlib.Core.Bool.{cond}
 use mathlib.Core.List.{List, [], _++_, _∷_}
 use Prim.Native.Nat.{ℕ}
-use lib.Bits.{bitOr}
-use lib.Dec.{eqb, ltb}
 use lib.ListN.{set}
 use Rattle.report.specs.Report.{reportOfRan}
 use Rattle.machine.specs.Flag.{withFlag}
 use Rattle.machine.specs.Run.{Ran, runOf}
-use Rattle.machine.specs.State.{withMmu, withPc, withPending, withPorts, withRegs, withStack, withTlb}
+use Rattle.machine.specs.State.{withMmu, withTlb}
 use Rattle.machine.specs.declared.State.{State}
-use Rattle.card.specs.declared.Command.{Command}
-use Rattle.card.specs.declared.Command.the-variants.{Byte, Entry, Flag, Lines, Mmu, Register, Run}
+use Rattle.settings.specs.Settings.{withLines, withRegister}
+use Rattle.command.specs.declared.Command.{Command}
+use Rattle.command.specs.declared.Command.the-variants.{Byte, Entry, Flag, Lines, Mmu, Register, Run}
 
 -- the state and the memory after some commands, and the report bytes that they wrote
 pub record Effect : Type 0 where
@@ -22,19 +20,6 @@ pub record Effect : Type 0 where
 
 abbrev pub effect : State → List ℕ → List ℕ → Effect
 effect st m reports = record { state = st; memory = m; reports = reports }
-
--- "02 register 0-15 (1; 13 is SSP), value(2)": 13 is SSP whatever P is, 14 USP, 15 PC
-unfoldable pub withRegister : State → ℕ → ℕ → State
-withRegister st n v =
-    cond (ltb n 13) (withRegs st (set (st .regs) n v))
-    (cond (eqb n 13) (withStack st v (st .usp))
-    (cond (eqb n 14) (withStack st (st .ssp) v)
-    (withPc st v)))
-
--- "03 lines(2), input byte(1), lines added to pending": a line that is pending already stays so
-abbrev pub withLines : State → ℕ → ℕ → State
-withLines st lines byte =
-    withPorts (withPending st (bitOr (st .pending) lines)) (record { input = byte; output = st .ports .output })
 
 -- "04 allowance(2), a run": "Each run writes 12 bytes"
 abbrev pub runEffect : Ran → Effect

@@ -3,73 +3,19 @@ ghost use mathlib.Core.List.{_++_};
 ghost use mathlib.Core.Path.{_≡_};
 ghost use Prim.Native.Nat.{_*_, _+_, _≤_};
 ghost use lib.ListN.{drop, length, set, take};
-ghost use Rattle.card.specs.Card.{cardSize, isRun, readFrom, runsIn};
+ghost use Rattle.command.specs.Card.{cardSize, isRun, readFrom, runsIn};
 ghost use Rattle.card.specs.Effect as def;
 ghost use Rattle.decode.specs.Entry.{tableOf};
 ghost use Rattle.report.specs.Layout.{reportSize};
 ghost use Rattle.report.specs.Report.{reportOfRan};
 ghost use Rattle.machine.specs.Run.{runOf};
-ghost use Rattle.machine.specs.State.{withMmu, withTlb};
-use crate::Command;
-use crate::Parsed;
 use crate::Progress;
-use crate::parser::parse;
+use command::Command;
+use command::Parsed;
+use command::parse;
 use decode::Table;
-use machine::Ports;
 use machine::State;
 use report::REPORT;
-
-// 02: register 13 is SSP whatever P is.
-fn set_register(mut state: State, number: u8, value: u16) -> State
-    ensures { λ r. ⌜ r ≡ def.withRegister state number value ⌝ }
-{
-    match number {
-        13 => state.ssp = value,
-        14 => state.usp = value,
-        0..=12 => {
-            let mut regs = state.regs;
-            regs[number as usize] = value;
-            state.regs = regs;
-        }
-        _ => state.pc = value,
-    }
-    state
-}
-
-// 03: lines that are pending already stay so.
-fn add_lines(mut state: State, lines: u16, byte: u8) -> State
-    ensures { λ r. ⌜ r ≡ def.withLines state lines byte ⌝ }
-{
-    let old = state.ports;
-    let ports = Ports {
-        input: byte,
-        output: old.output,
-    };
-    state.pending = state.pending | lines;
-    state.ports = ports;
-    state
-}
-
-// 05.
-fn set_entry(mut state: State, number: u8, bits: u32) -> State
-    ensures { λ r. ⌜ r ≡ withTlb state (set (state .tlb) number bits) ⌝ }
-{
-    if 8 <= number {
-        return state;
-    }
-    let mut tlb = state.tlb;
-    tlb[number as usize] = bits;
-    state.tlb = tlb;
-    state
-}
-
-// 06.
-fn set_mmu(mut state: State, on: bool) -> State
-    ensures { λ r. ⌜ r ≡ withMmu state on ⌝ }
-{
-    state.mmu = on;
-    state
-}
 
 // 01.
 fn set_byte(memory: &mut [u8], address: u16, value: u8)
@@ -128,11 +74,11 @@ fn execute_command(
             Progress { state, filled }
         }
         Command::Register(number, value) => Progress {
-            state: set_register(state, number, value),
+            state: settings::set_register(state, number, value),
             filled,
         },
         Command::Lines(lines, byte) => Progress {
-            state: add_lines(state, lines, byte),
+            state: settings::add_lines(state, lines, byte),
             filled,
         },
         Command::Run(allowance) => Progress {
@@ -140,11 +86,11 @@ fn execute_command(
             filled: filled + REPORT,
         },
         Command::Entry(number, bits) => Progress {
-            state: set_entry(state, number, bits),
+            state: settings::set_entry(state, number, bits),
             filled,
         },
         Command::Mmu(on) => Progress {
-            state: set_mmu(state, on),
+            state: settings::set_mmu(state, on),
             filled,
         },
         Command::Flag(flag) => Progress {

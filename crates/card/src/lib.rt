@@ -1,48 +1,12 @@
-// Bench cards: their commands, their tests, and what they do.
+// Bench cards: their calls, and what their commands do.
 mod calls;
 mod effects;
-mod parser;
 mod validity;
 
 pub use calls::perform;
 pub use calls::run_card;
 use machine::State;
-use refusal::Refusal;
 use refusal::Validity;
-
-// A command of a card, with its operands.
-pub enum Command {
-    // 01: a byte stored at a physical address.
-    Byte(u16, u8),
-    // 02: a register by its number, and its value.
-    Register(u8, u16),
-    // 03: lines added to those pending, and the input byte.
-    Lines(u16, u8),
-    // 04: a run of this allowance.
-    Run(u16),
-    // 05: a TLB entry by its number, and its bits.
-    Entry(u8, u32),
-    // 06: the MMU switched.
-    Mmu(bool),
-    // 07: FLAG.
-    Flag(u16),
-}
-
-// What stands at a position of a card.
-pub enum Parsed {
-    // Nothing: the card ends there.
-    End,
-    // A command, and the position of the next.
-    Next(Command, usize),
-    // A bad command, with its place.
-    Bad(Refusal),
-}
-
-// The tests of a card by itself, and the number of its runs.
-struct CardValidity {
-    pub validity: Validity,
-    pub runs: usize,
-}
 
 // The tests of a card's call, and the report bytes that its runs need.
 struct CallValidity {

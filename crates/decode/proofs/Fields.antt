@@ -9,7 +9,7 @@ use native.Mathlib.Omega.{arith}
 use borrow.Author.Tests.{eqb-true, le-ltb, lt-ltb, ne-eqb}
 use lib.Dec.{eqb, lit<}
 use lib.ListN.{getD}
-use Rattle.word.specs.Laws.{undefined-thirteen}
+use Rattle.jump.specs.Laws.{undefined-thirteen}
 use Rattle.word.specs.Word.{upper}
 use Rattle.decode.specs.Decode.{fieldsBad, firstIn, firstOf, hasSecond, rdBad, rdField, rxField, usesRx}
 use Rattle.decode.specs.Entry.{accessNumber, byNumber, entryOf, flowNumber, packed, packedRow, privilegeNumber, rdNumber, tableFrom, tableOf}

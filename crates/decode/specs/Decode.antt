@@ -4,7 +4,7 @@ use mathlib.Core.Bool.{Bool, cond, false, _&&_, _||_}
 use Prim.Native.Nat.{ℕ, _%_, _/_}
 use lib.Dec.{eqb, ltb}
 use lib.IntN.{pos, _*ℤ_}
-use Rattle.word.specs.Jump.{conditionUndefined}
+use Rattle.jump.specs.Jump.{conditionUndefined}
 use Rattle.word.specs.Signed.{signed4}
 use Rattle.word.specs.Word.{upper}
 use Rattle.decode.specs.Instructions.{RdUse, Row, condition, register, unused}

@@ -11,8 +11,8 @@ use Rattle.decode.specs.Instructions.{addStates, eight}
 use Rattle.decode.specs.Opcode.{statesAt}
 use Rattle.decode.specs.declared.Flow.the-variants as flow
 use Rattle.machine.specs.Execute.{aluOf}
-use Rattle.word.specs.Alu.{places, subOf}
-use Rattle.word.specs.declared.alu.Alu.{Alu}
+use Rattle.alu.specs.Alu.{places, subOf}
+use Rattle.alu.specs.declared.Alu.{Alu}
 use Rattle.hot.specs.Operations.{compare-does, divide-does, load-does, next-does, shift-does}
 use Rattle.hot.specs.Rows.{Computes, addCost, below-eight, loadCost}
 use Rattle.hot.specs.Sources.{modeOf}

@@ -12,22 +12,22 @@ use Rattle.decode.specs.declared.Operand.{Operand}
 use Rattle.decode.specs.declared.Privilege.the-variants.{Anyone}
 use Rattle.machine.specs.Enter.{Outcome}
 use Rattle.machine.specs.Flag.{flagOf}
-use Rattle.plan.specs.Need.{addressOf, needOf, valueStored}
+use Rattle.transfer.specs.Need.{addressOf, needOf, valueStored}
 use Rattle.machine.specs.Plan.{interrupted, planFetch, planFirst, planOf, planOperand, planSecond, planned, taken, translates}
 use Rattle.plan.specs.End.{endOf}
 use Rattle.machine.specs.Register.{regOf, spOf}
 use Rattle.machine.specs.Step.{commit, stepOf}
-use Rattle.plan.specs.Transfer.{transferOf}
+use Rattle.transfer.specs.Transfer.{transferOf}
 use Rattle.machine.specs.declared.Event.the-variants.{Executed}
 use Rattle.machine.specs.declared.Planned.{Planned}
 use Rattle.plan.specs.declared.Ready.{Ready}
 use Rattle.machine.specs.declared.State.{State}
-use Rattle.plan.specs.declared.Transfer.the-variants.{Done}
+use Rattle.transfer.specs.declared.Transfer.the-variants.{Done}
 use Rattle.mmu.specs.Access.{granted, wordAccess}
-use Rattle.mmu.specs.Memory.{wordAt}
+use Rattle.memory.specs.Memory.{wordAt}
 use Rattle.mmu.specs.declared.Right.{Right}
 use Rattle.mmu.specs.declared.Right.the-variants.{Execute}
-use Rattle.mmu.specs.declared.Store.{Store}
+use Rattle.memory.specs.declared.Store.{Store}
 use Rattle.pages.specs.Maps.{Mapped}
 use Rattle.word.specs.Word.{plus, upper}
 

@@ -19,7 +19,7 @@ use Rattle.pages.specs.Accesses.{Reads, Wrote}
 use Rattle.pages.specs.Maps.{access-granted}
 use Rattle.pages.specs.declared.Width.{Width}
 use Rattle.pages.specs.declared.Width.the-variants.{Word}
-use Rattle.word.specs.Jump.{conditionOf}
+use Rattle.jump.specs.Jump.{conditionOf}
 use Rattle.word.specs.Word.{minus, plus, upper}
 use Rattle.hot.specs.Fields.{RegRead, second-of}
 use Rattle.hot.specs.Hot.{hotState, reg-hot}

@@ -8,15 +8,15 @@ use Rattle.decode.specs.Decode.{hasSecond, operandOf, rxField, shapeOf}
 use Rattle.decode.specs.Instructions.{Row}
 use Rattle.decode.specs.declared.Operand.{Operand}
 use Rattle.decode.specs.declared.Operand.the-variants as operand
-use Rattle.plan.specs.Need.{addressOf, loadNeed, storeNeed}
+use Rattle.transfer.specs.Need.{addressOf, loadNeed, storeNeed}
 use Rattle.machine.specs.Plan.{planOperand, planSecond, translates}
 use Rattle.machine.specs.Register.{regOf}
-use Rattle.plan.specs.Transfer.{loaded, transferOf}
-use Rattle.plan.specs.declared.Need.{Need}
-use Rattle.plan.specs.declared.Need.the-variants.{ReadByte, ReadWord, WriteByte, WriteWord}
+use Rattle.transfer.specs.Transfer.{loaded, transferOf}
+use Rattle.transfer.specs.declared.Need.{Need}
+use Rattle.transfer.specs.declared.Need.the-variants.{ReadByte, ReadWord, WriteByte, WriteWord}
 use Rattle.machine.specs.declared.State.{State}
 use Rattle.mmu.specs.Access.{granted}
-use Rattle.mmu.specs.Memory.{wordAt}
+use Rattle.memory.specs.Memory.{wordAt}
 use Rattle.mmu.specs.declared.Right.the-variants.{Execute, Read}
 use Rattle.pages.specs.Accesses.{readAt}
 use Rattle.pages.specs.Maps.{accessOf}

@@ -22,32 +22,32 @@ use Rattle.decode.specs.declared.Operand.the-variants as operand
 use Rattle.machine.specs.Enter.{Outcome}
 use Rattle.machine.specs.Execute.{afterOperation, aluOf, bodyOf, eventOf, withResult}
 use Rattle.machine.specs.Flag.{flagOf}
-use Rattle.plan.specs.Need.{addressOf, needOf, valueStored}
+use Rattle.transfer.specs.Need.{addressOf, needOf, valueStored}
 use Rattle.machine.specs.Plan.{planFirst, planOperand, planned, taken, translates}
 use Rattle.plan.specs.End.{endOf}
 use Rattle.status.specs.Flag.{holds}
 use Rattle.machine.specs.Register.{regOf, spOf, withReg}
 use Rattle.machine.specs.State.{withPc}
 use Rattle.machine.specs.Step.{commit}
-use Rattle.plan.specs.Transfer.{transferOf}
+use Rattle.transfer.specs.Transfer.{transferOf}
 use Rattle.plan.specs.declared.Operation.{Operation}
 use Rattle.plan.specs.declared.Plan.the-variants.{Perform}
 use Rattle.machine.specs.declared.State.{State}
-use Rattle.plan.specs.declared.Transfer.the-variants.{Done}
+use Rattle.transfer.specs.declared.Transfer.the-variants.{Done}
 use Rattle.mmu.specs.Access.{granted}
-use Rattle.mmu.specs.Memory.{storeWord, stored, wordAt}
+use Rattle.memory.specs.Memory.{storeWord, stored, wordAt}
 use Rattle.mmu.specs.declared.Right.the-variants.{Read, Write}
-use Rattle.mmu.specs.declared.Store.{Store}
-use Rattle.mmu.specs.declared.Store.the-variants as store
+use Rattle.memory.specs.declared.Store.{Store}
+use Rattle.memory.specs.declared.Store.the-variants as store
 use Rattle.pages.specs.Accesses.{writeAt}
 use Rattle.pages.specs.Maps.{accessOf}
 use Rattle.pages.specs.declared.Width.{Width}
 use Rattle.pages.specs.declared.Width.the-variants.{Byte, Word}
-use Rattle.word.specs.Alu.{places, subOf}
-use Rattle.word.specs.Jump.{conditionOf}
-use Rattle.word.specs.Laws.{undefined-thirteen}
+use Rattle.alu.specs.Alu.{places, subOf}
+use Rattle.jump.specs.Jump.{conditionOf}
+use Rattle.jump.specs.Laws.{undefined-thirteen}
 use Rattle.word.specs.Word.{minus, plus, upper}
-use Rattle.word.specs.declared.alu.Alu.{Alu}
+use Rattle.alu.specs.declared.Alu.{Alu}
 use Rattle.hot.specs.Fetch.{Grants, accessed, carriedOut, defined, did, one-word, readied}
 use Rattle.hot.specs.Hot.{hot, hotState, reg-hot, sp-hot, sp-with-hot, with-hot}
 use Rattle.hot.specs.Operands.{Addressed, Reached, Sourced}

@@ -7,7 +7,7 @@ use Prim.Native.Nat.{ℕ, _<_}
 use native.Mathlib.Omega.{arith}
 use lib.ListN.{length, set}
 use Rattle.machine.specs.declared.State.{State}
-use Rattle.word.specs.declared.alu.Alu.{Alu}
+use Rattle.alu.specs.declared.Alu.{Alu}
 use Rattle.hot.specs.Fetch.{MapOf}
 use Rattle.hot.specs.Hot.{hotState}
 use Rattle.hot.specs.Operations.{Does, RxFine}

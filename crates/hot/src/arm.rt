@@ -9,9 +9,9 @@ ghost use Rattle.hot.specs.Tells.{Divided, Operates};
 use crate::Hot;
 use crate::register::USP;
 use crate::source::Source;
+use alu::Alu;
 use decode::code;
 use pages::NONE;
-use word::Alu;
 
 impl Hot {
     // To another address, in these states.
@@ -59,20 +59,20 @@ impl Hot {
         let code = (w / 2048) as u8;
         match code {
             code::LD => self.load(regs, d, b, x.next, load_cost(w, x.cost)),
-            code::ADD => with(regs, d, word::add(a, b), x.next, x.cost),
-            code::SUB => with(regs, d, word::sub(a, b), x.next, x.cost),
-            code::CMP => flagged(word::sub(a, b), x.next, x.cost),
-            code::AND => with(regs, d, word::and(a, b), x.next, x.cost),
-            code::OR => with(regs, d, word::or(a, b), x.next, x.cost),
-            code::XOR => with(regs, d, word::xor(a, b), x.next, x.cost),
-            code::ADDS => with(regs, d, word::adds(a, b), x.next, x.cost + 1),
-            code::MUL => with(regs, d, word::mul(a, b), x.next, x.cost + 50),
-            code::DIV => self.divide(regs, d, b, word::div(a, b), x.next, x.cost + 66),
-            code::MOD => self.divide(regs, d, b, word::modulo(a, b), x.next, x.cost + 66),
-            code::SHLA => with(regs, d, word::shl(a, b), x.next, x.cost + 1 + x.value % 16),
-            code::SHLL => with(regs, d, word::shl(a, b), x.next, x.cost + 1 + x.value % 16),
-            code::SHRA => with(regs, d, word::shra(a, b), x.next, x.cost + 1 + x.value % 16),
-            code::SHRL => with(regs, d, word::shrl(a, b), x.next, x.cost + 1 + x.value % 16),
+            code::ADD => with(regs, d, alu::add(a, b), x.next, x.cost),
+            code::SUB => with(regs, d, alu::sub(a, b), x.next, x.cost),
+            code::CMP => flagged(alu::sub(a, b), x.next, x.cost),
+            code::AND => with(regs, d, alu::and(a, b), x.next, x.cost),
+            code::OR => with(regs, d, alu::or(a, b), x.next, x.cost),
+            code::XOR => with(regs, d, alu::xor(a, b), x.next, x.cost),
+            code::ADDS => with(regs, d, alu::adds(a, b), x.next, x.cost + 1),
+            code::MUL => with(regs, d, alu::mul(a, b), x.next, x.cost + 50),
+            code::DIV => self.divide(regs, d, b, alu::div(a, b), x.next, x.cost + 66),
+            code::MOD => self.divide(regs, d, b, alu::modulo(a, b), x.next, x.cost + 66),
+            code::SHLA => with(regs, d, alu::shl(a, b), x.next, x.cost + 1 + x.value % 16),
+            code::SHLL => with(regs, d, alu::shl(a, b), x.next, x.cost + 1 + x.value % 16),
+            code::SHRA => with(regs, d, alu::shra(a, b), x.next, x.cost + 1 + x.value % 16),
+            code::SHRL => with(regs, d, alu::shrl(a, b), x.next, x.cost + 1 + x.value % 16),
             _ => self.stop(),
         }
     }

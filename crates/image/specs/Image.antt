@@ -1,17 +1,13 @@
 -- The image of a state, in the order of `Layout`.
 -- Assumes nothing.
 use mathlib.Core.List.{List, [], _++_, _∷_}
-use Prim.Native.Nat.{ℕ, _%_, _/_}
+use Prim.Native.Nat.{ℕ}
 use mir.Val.{boolByte}
 use Rattle.machine.specs.Answers.{conditionNumber}
 use Rattle.machine.specs.Flag.{flagOf}
 use Rattle.machine.specs.declared.State.{State}
-use Rattle.word.specs.Bytes.{wordBytes}
-
--- TLB entries of 3 bytes, the upper byte first
-unfoldable pub entryBytes : List ℕ → List ℕ
-entryBytes [] = []
-entryBytes (e ∷ es) = (e / 65536 % 256) ∷ (e / 256 % 256) ∷ (e % 256) ∷ entryBytes es
+use Rattle.endian.specs.Bytes.{wordBytes}
+use Rattle.layout.specs.Entries.{entryBytes}
 
 -- the bytes between the registers and the TLB
 abbrev pub betweenOf : State → List ℕ

@@ -1,26 +1,21 @@
 // The image of a state.
-ghost use mathlib.Core.List.{_∷_, []};
 ghost use mathlib.Core.Path.{_≡_};
-ghost use Prim.Native.Nat.{_*_, _+_, _≤_};
 ghost use lib.ListN.{length};
 ghost use lib.Seq.{sets};
 ghost use Rattle.image.specs.Image as def;
-ghost use Rattle.image.specs.Layout.{imageSize, sspAt};
+ghost use Rattle.layout.specs.Layout.{imageSize, sspAt};
 ghost use Rattle.machine.specs.Answers.{conditionNumber};
-use crate::layout::CAUSE;
-use crate::layout::ENTRY;
-use crate::layout::FRAME;
-use crate::layout::INPUT;
-use crate::layout::MIDDLE;
-use crate::layout::REGS;
-use crate::layout::SSP;
-use crate::layout::TLB;
-use crate::layout::VIOLATION;
+use endian::put_bytes;
+use endian::put_word;
+use endian::put_words;
+use layout::CAUSE;
+use layout::INPUT;
+use layout::REGS;
+use layout::SSP;
+use layout::TLB;
+use layout::VIOLATION;
 use machine::Condition;
 use machine::State;
-use word::put_bytes;
-use word::put_word;
-use word::put_words;
 
 fn condition_byte(condition: Condition) -> u8
     ensures { λ r. ⌜ r ≡ conditionNumber condition ⌝ }
@@ -29,26 +24,6 @@ fn condition_byte(condition: Condition) -> u8
         Condition::Running => 0,
         Condition::Halted => 1,
         Condition::Lost => 2,
-    }
-}
-
-// A TLB entry stored at an offset.
-fn put_entry(bytes: &mut [u8], at: usize, entry: u32)
-    requires { ⌜ at + 3 ≤ length (now bytes) ⌝ }
-    ensures { λ _. ⌜ now (bytes .exit) ≡ sets (now (bytes .entry)) at (def.entryBytes (entry ∷ [])) ⌝ }
-{
-    bytes[at] = (entry / 65536 % 256) as u8;
-    bytes[at + MIDDLE] = (entry / 256 % 256) as u8;
-    bytes[at + FRAME] = (entry % 256) as u8;
-}
-
-// TLB entries stored from an offset on.
-fn put_entries(bytes: &mut [u8], at: usize, entries: &[u32])
-    requires { ⌜ at + 3 * length (now entries) ≤ length (now bytes) ⌝ }
-    ensures { λ _. ⌜ now (bytes .exit) ≡ sets (now (bytes .entry)) at (def.entryBytes (now (entries .entry))) ⌝ }
-{
-    for k in 0..entries.len() {
-        put_entry(bytes, at + ENTRY * k, entries[k]);
     }
 }
 
@@ -84,5 +59,5 @@ pub fn write_image(image: &mut [u8], state: State)
     let tlb = state.tlb;
     put_words(image, REGS, &regs);
     put_between(image, state);
-    put_entries(image, TLB, &tlb);
+    layout::put_entries(image, TLB, &tlb);
 }

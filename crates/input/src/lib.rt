@@ -35,7 +35,7 @@ fn read_by(chunk: &mut [u8], buffer: &mut [u8], at: usize) -> isize
     let room = least(buffer.len() - at, chunk.len());
     let got = libc::read(libc::STDIN_FILENO, &mut chunk[..room]);
     let more = io::count(got, &chunk[..room]);
-    word::put_bytes(buffer, at, &chunk[..more]);
+    endian::put_bytes(buffer, at, &chunk[..more]);
     got
 }
 

@@ -18,33 +18,33 @@ use Rattle.machine.specs.Enter.{enterOf, entered, lost}
 use Rattle.machine.specs.Execute.{eventOf}
 use Rattle.machine.specs.Fault.{noted}
 use Rattle.machine.specs.Flag.{flagOf}
-use Rattle.plan.specs.Need.{addressOf, needOf, valueStored}
+use Rattle.transfer.specs.Need.{addressOf, needOf, valueStored}
 use Rattle.machine.specs.Plan.{after, fetched, interrupted, permitted, planFetch, planFirst, planOf, planOperand, planSecond, planTransfer, planned, throughAccess, translates}
 use Rattle.machine.specs.Register.{regOf, spOf}
 use Rattle.machine.specs.State.{withPending, withTlb}
 use Rattle.machine.specs.Step.{commit, stepOf}
 use Rattle.status.specs.Lines.{without}
-use Rattle.plan.specs.Transfer.{byAccess, loaded, readSecond, transferAt, transferOf}
-use Rattle.plan.specs.declared.Need.{Need}
-use Rattle.plan.specs.declared.Need.the-variants.{ReadByte, ReadTwo, ReadWord, Value, WriteByte, WriteWord}
+use Rattle.transfer.specs.Transfer.{byAccess, loaded, readSecond, transferAt, transferOf}
+use Rattle.transfer.specs.declared.Need.{Need}
+use Rattle.transfer.specs.declared.Need.the-variants.{ReadByte, ReadTwo, ReadWord, Value, WriteByte, WriteWord}
 use Rattle.plan.specs.declared.Operation.{Operation}
 use Rattle.plan.specs.declared.Plan.{Plan}
 use Rattle.plan.specs.declared.Plan.the-variants.{Interrupt, Perform, Trap, Violation}
 use Rattle.machine.specs.declared.Planned.{Planned}
 use Rattle.machine.specs.declared.State.{State}
-use Rattle.plan.specs.declared.Transfer.{Transfer}
-use Rattle.plan.specs.declared.Transfer.the-variants as transfer
-use Rattle.plan.specs.declared.Transferred.{Transferred}
+use Rattle.transfer.specs.declared.Transfer.{Transfer}
+use Rattle.transfer.specs.declared.Transfer.the-variants as transfer
+use Rattle.transfer.specs.declared.Transferred.{Transferred}
 use Rattle.mmu.specs.Access.{byteAccess, wordAccess}
 use Rattle.mmu.specs.Answers.{faultNumber}
 use Rattle.mmu.specs.Laws.{AccessCases, access-keeps, word-cases}
-use Rattle.mmu.specs.Memory.{byteAt, wordAt}
+use Rattle.memory.specs.Memory.{byteAt, wordAt}
 use Rattle.mmu.specs.declared.Access.{Access}
 use Rattle.mmu.specs.declared.Access.the-variants as access
 use Rattle.mmu.specs.declared.Accessed.{Accessed}
 use Rattle.mmu.specs.declared.Right.{Right}
 use Rattle.mmu.specs.declared.Right.the-variants.{Execute, Read, Write}
-use Rattle.mmu.specs.declared.Store.the-variants as store
+use Rattle.memory.specs.declared.Store.the-variants as store
 use Rattle.word.specs.Cases.{either}
 use Rattle.word.specs.Word.{halves, plus, upper}
 use Rattle.isolation.specs.Rights.{ByteIn, byte-in, on, rights-marked, user-after, word-in}

@@ -21,7 +21,7 @@ use Rattle.machine.specs.Enter.{enterOf}
 use Rattle.machine.specs.Execute.{afterOperation, eventOf}
 use Rattle.machine.specs.Fault.{noted}
 use Rattle.machine.specs.Flag.{flagOf}
-use Rattle.plan.specs.Need.{addressOf, needOf, valueStored}
+use Rattle.transfer.specs.Need.{addressOf, needOf, valueStored}
 use Rattle.machine.specs.Kept.{stored-long, transfer-keeps}
 use Rattle.machine.specs.PlanLaws.{Ways, end-by, plan-by}
 use Rattle.machine.specs.Plan.{permitted, planOf, planOperand, planTransfer, translates}
@@ -31,19 +31,19 @@ use Rattle.machine.specs.State.{withPc, withTlb}
 use Rattle.machine.specs.Step.{commit, stepOf}
 use Rattle.status.specs.Lines.{without}
 use Rattle.machine.specs.StepLaws.{body-by, enter-by}
-use Rattle.plan.specs.Transfer.{readSecond, transferAt, transferOf}
+use Rattle.transfer.specs.Transfer.{readSecond, transferAt, transferOf}
 use Rattle.machine.specs.declared.Condition.{Condition}
 use Rattle.machine.specs.declared.Event.the-variants as event
-use Rattle.plan.specs.declared.Need.{Need}
-use Rattle.plan.specs.declared.Need.the-variants.{ReadByte, ReadTwo, ReadWord, Value, WriteByte, WriteWord}
+use Rattle.transfer.specs.declared.Need.{Need}
+use Rattle.transfer.specs.declared.Need.the-variants.{ReadByte, ReadTwo, ReadWord, Value, WriteByte, WriteWord}
 use Rattle.plan.specs.declared.Operation.{Operation}
 use Rattle.plan.specs.declared.Plan.{Plan}
 use Rattle.plan.specs.declared.Plan.the-variants.{Interrupt, Perform, Trap, Violation}
 use Rattle.machine.specs.declared.Planned.{Planned}
 use Rattle.machine.specs.declared.State.{State}
-use Rattle.plan.specs.declared.Transfer.{Transfer}
-use Rattle.plan.specs.declared.Transfer.the-variants as transfer
-use Rattle.plan.specs.declared.Transferred.{Transferred}
+use Rattle.transfer.specs.declared.Transfer.{Transfer}
+use Rattle.transfer.specs.declared.Transfer.the-variants as transfer
+use Rattle.transfer.specs.declared.Transferred.{Transferred}
 use Rattle.mmu.specs.Access.{byteAccess, wordAccess}
 use Rattle.mmu.specs.Answers.{faultNumber}
 use Rattle.mmu.specs.Entry.{marked}
@@ -52,8 +52,8 @@ use Rattle.mmu.specs.declared.Access.{Access}
 use Rattle.mmu.specs.declared.Access.the-variants as access
 use Rattle.mmu.specs.declared.Right.{Right}
 use Rattle.mmu.specs.declared.Right.the-variants.{Execute, Read, Write}
-use Rattle.mmu.specs.declared.Store.{Store}
-use Rattle.mmu.specs.declared.Store.the-variants as store
+use Rattle.memory.specs.declared.Store.{Store}
+use Rattle.memory.specs.declared.Store.the-variants as store
 use Rattle.word.specs.Cases.{either}
 use Rattle.word.specs.Word.{plus}
 use Rattle.isolation.specs.Rights.{byte-in, on, rights-marked, word-in}

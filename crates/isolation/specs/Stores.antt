@@ -11,10 +11,10 @@ use lib.Dec.{eqb}
 use lib.ListN.{getD, length, length-set, set}
 use lib.Seq.{getD-set-other}
 use Rattle.machine.specs.Enter.{pushed}
-use Rattle.mmu.specs.Memory.{storeWord, stored}
+use Rattle.memory.specs.Memory.{storeWord, stored}
 use Rattle.mmu.specs.declared.Right.the-variants.{Write}
-use Rattle.mmu.specs.declared.Store.{Store}
-use Rattle.mmu.specs.declared.Store.the-variants.{Byte, Nothing, Word}
+use Rattle.memory.specs.declared.Store.{Store}
+use Rattle.memory.specs.declared.Store.the-variants.{Byte, Nothing, Word}
 use Rattle.word.specs.Word.{lower, minus, plus, upper}
 use Rattle.isolation.specs.Rights.{ByteIn}
 use Rattle.isolation.specs.Statement.{Pushed, hasRight}

@@ -5,12 +5,12 @@ use mathlib.Core.List.{List}
 use mathlib.Core.Path.{_≡_}
 use Prim.Native.Nat.{ℕ, _*_}
 use lib.ListN.{length}
-use Rattle.card.specs.Call.{cardCall, executedCall}
-use Rattle.card.specs.Card.{cardValid, readingOf, runsIn}
+use Rattle.card.specs.Call.{cardCall, executedCall, cardValid}
+use Rattle.command.specs.Card.{readingOf, runsIn}
 use Rattle.card.specs.Effect.{Effect, executeOf}
 use Rattle.card.specs.Passed.{passed}
 use Rattle.image.specs.Decode.{stateFrom}
-use Rattle.image.specs.Valid.{goodImage}
+use Rattle.layout.specs.Valid.{goodImage}
 use Rattle.report.specs.Layout.{reportSize}
 use Rattle.refusal.specs.declared.Validity.the-variants.{Good}
 use Rattle.machine.specs.declared.State.{State}

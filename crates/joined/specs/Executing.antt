@@ -4,9 +4,9 @@ use mathlib.Core.List.{List, [], append-assoc, _++_, _∷_}
 use mathlib.Core.Path.{ap, refl, _∙_, _≡_}
 use Prim.Native.Nat.{ℕ, _+_}
 use native.Mathlib.Omega.{arith}
-use Rattle.card.specs.Card.{runsIn}
+use Rattle.command.specs.Card.{runsIn}
 use Rattle.card.specs.Effect.{Effect, effectOf, behind, executeOf}
-use Rattle.card.specs.declared.Command.{Command}
+use Rattle.command.specs.declared.Command.{Command}
 use Rattle.machine.specs.declared.State.{State}
 
 -- the runs of both

@@ -7,10 +7,11 @@ use Prim.Native.Nat.{ℕ, _<_}
 use lib.Bits.{bitOr, or-lt}
 use lib.Dec.{eqb, ltb}
 use lib.ListN.{length, length-set, set}
-use Rattle.card.specs.Card.{readingOf}
-use Rattle.card.specs.Effect.{Effect, effectOf, executeOf, withLines, withRegister}
-use Rattle.card.specs.declared.Command.{Command}
-use Rattle.card.specs.declared.Command.the-variants.{Byte, Entry, Flag, Lines, Mmu, Register, Run}
+use Rattle.command.specs.Card.{readingOf}
+use Rattle.card.specs.Effect.{Effect, effectOf, executeOf}
+use Rattle.settings.specs.Settings.{withLines, withRegister}
+use Rattle.command.specs.declared.Command.{Command}
+use Rattle.command.specs.declared.Command.the-variants.{Byte, Entry, Flag, Lines, Mmu, Register, Run}
 use Rattle.machine.specs.Flag.{withFlag}
 use Rattle.machine.specs.State.{withMmu, withTlb}
 use Rattle.machine.specs.declared.State.{State}

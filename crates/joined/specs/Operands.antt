@@ -9,18 +9,18 @@ use borrow.Author.Tests.{eqb-true, ltb-true}
 use lib.Dec.{leb, ltb}
 use lib.ListN.{drop, getD, length}
 use lib.Seq.{getD-drop}
-use Rattle.card.specs.Card.{Reading, cardSize, readBy, readFrom, readingOf}
-use Rattle.card.specs.Command.{commandOf, goodOf, operandsOf, parsedOf}
-use Rattle.card.specs.Laws.{read-on}
-use Rattle.card.specs.declared.Command.{Command}
-use Rattle.card.specs.declared.Command.the-variants.{Byte, Entry, Flag, Lines, Mmu, Register, Run}
-use Rattle.card.specs.declared.Parsed.{Parsed}
-use Rattle.card.specs.declared.Parsed.the-variants.{Bad, End, Next}
-use Rattle.image.specs.Valid.{pendingGood, zerosGood}
-use Rattle.word.specs.Bytes.{byteFrom}
+use Rattle.command.specs.Card.{Reading, cardSize, readBy, readFrom, readingOf}
+use Rattle.command.specs.Command.{commandOf, goodOf, operandsOf, parsedOf}
+use Rattle.command.specs.Laws.{read-on}
+use Rattle.command.specs.declared.Command.{Command}
+use Rattle.command.specs.declared.Command.the-variants.{Byte, Entry, Flag, Lines, Mmu, Register, Run}
+use Rattle.command.specs.declared.Parsed.{Parsed}
+use Rattle.command.specs.declared.Parsed.the-variants.{Bad, End, Next}
+use Rattle.layout.specs.Valid.{pendingGood, zerosGood}
+use Rattle.endian.specs.Bytes.{byteFrom}
 use Rattle.word.specs.Cases.{either, rest}
 use Rattle.roundtrip.specs.Statement.{Bytes, EntryFits, Zeros}
-use Rattle.card.specs.Whole.{Whole, by-number, whole}
+use Rattle.command.specs.Whole.{Whole, by-number, whole}
 use Rattle.joined.specs.Reading.{further}
 
 -- the operands that come into the state or into memory fit there

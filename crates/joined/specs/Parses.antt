@@ -9,12 +9,12 @@ use native.Mathlib.Nat.{add-assoc}
 use native.Mathlib.Omega.{arith}
 use lib.Dec.{eqb, leb}
 use lib.ListN.{List·getD-append, getD, length, length-append}
-use Rattle.card.specs.Command.{commandOf, goodOf, operandsOf, parsedOf}
-use Rattle.card.specs.Whole.{Whole, by-number, parsed, picked, whole}
-use Rattle.card.specs.declared.Command.{Command}
-use Rattle.card.specs.declared.Parsed.{Parsed}
-use Rattle.card.specs.declared.Parsed.the-variants.{Bad, End, Next}
-use Rattle.word.specs.Bytes.{byteFrom}
+use Rattle.command.specs.Command.{commandOf, goodOf, operandsOf, parsedOf}
+use Rattle.command.specs.Whole.{Whole, by-number, parsed, picked, whole}
+use Rattle.command.specs.declared.Command.{Command}
+use Rattle.command.specs.declared.Parsed.{Parsed}
+use Rattle.command.specs.declared.Parsed.the-variants.{Bad, End, Next}
+use Rattle.endian.specs.Bytes.{byteFrom}
 use Rattle.refusal.specs.declared.Refusal.{Refusal}
 
 -- ---- more bytes behind it

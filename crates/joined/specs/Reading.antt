@@ -7,14 +7,13 @@ use native.Mathlib.Omega.{arith}
 use borrow.Author.Tests.{le-leb}
 use lib.ListN.{drop, length, length-append, length-drop}
 use lib.Seq.{drop-append-add, drop-append-le}
-use Rattle.card.specs.Card.{Reading, cardSize, readBy, readFrom, reading, readingOf}
-use Rattle.card.specs.Command.{parsedOf}
-use Rattle.card.specs.Laws.{next-within, read-on}
-use Rattle.card.specs.Passed.{read-whole}
-use Rattle.card.specs.Whole.{ended}
-use Rattle.card.specs.declared.Command.{Command}
-use Rattle.card.specs.declared.Parsed.{Parsed}
-use Rattle.card.specs.declared.Parsed.the-variants.{Bad, End, Next}
+use Rattle.command.specs.Card.{Reading, cardSize, readBy, readFrom, reading, readingOf}
+use Rattle.command.specs.Command.{parsedOf}
+use Rattle.command.specs.Laws.{next-within, read-on, read-whole}
+use Rattle.command.specs.Whole.{ended}
+use Rattle.command.specs.declared.Command.{Command}
+use Rattle.command.specs.declared.Parsed.{Parsed}
+use Rattle.command.specs.declared.Parsed.the-variants.{Bad, End, Next}
 use Rattle.refusal.specs.Laws.{not-good}
 use Rattle.refusal.specs.declared.Validity.{Validity}
 use Rattle.refusal.specs.declared.Validity.the-variants.{Good, Refused}

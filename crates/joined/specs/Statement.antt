@@ -6,11 +6,11 @@ use mathlib.Core.List.{List, _++_}
 use mathlib.Core.Path.{_≡_}
 use Prim.Native.Nat.{ℕ, _+_, _≤_}
 use lib.ListN.{drop, length, take}
-use Rattle.card.specs.Call.{cardCall}
-use Rattle.card.specs.Card.{cardSize, cardValid, readingOf}
+use Rattle.card.specs.Call.{cardCall, cardValid}
+use Rattle.command.specs.Card.{cardSize, readingOf}
 use Rattle.refusal.specs.Call.{Call}
-use Rattle.image.specs.Layout.{imageSize}
-use Rattle.image.specs.Valid.{goodImage}
+use Rattle.layout.specs.Layout.{imageSize}
+use Rattle.layout.specs.Valid.{goodImage}
 use Rattle.refusal.specs.declared.Validity.the-variants.{Good}
 use Rattle.roundtrip.specs.Statement.{Bytes}
 

@@ -6,12 +6,12 @@ use Prim.Native.Nat.{ℕ, _*_, _+_, _≤_}
 use native.Mathlib.Omega.{arith}
 use lib.ListN.{drop, length, length-drop}
 use lib.Seq.{drop-at, drop-drop, take-at}
-use Rattle.card.specs.Call.{executedCall}
-use Rattle.card.specs.Card.{readingOf, runsIn, cardValid}
+use Rattle.card.specs.Call.{executedCall, cardValid}
+use Rattle.command.specs.Card.{readingOf, runsIn}
 use Rattle.card.specs.Laws.{all-reports-long}
 use Rattle.card.specs.Effect.{Effect, executeOf}
 use Rattle.card.specs.Passed.{Passed, passed, passes}
-use Rattle.card.specs.declared.Command.{Command}
+use Rattle.command.specs.declared.Command.{Command}
 use Rattle.refusal.specs.Call.{Call}
 use Rattle.image.specs.Decode.{stateFrom}
 use Rattle.refusal.specs.declared.Validity.the-variants.{Good}

@@ -1,5 +1,2 @@
 pub mod Laws
-pub mod Lines
 pub mod Listing
-pub mod Text
-pub mod Written

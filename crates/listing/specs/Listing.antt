@@ -2,13 +2,13 @@
 -- capitals). A refusal prints only `refused N P`."
 -- Assumes nothing.
 use mathlib.Core.Bool.{cond}
-use mathlib.Core.List.{List, [], _++_, _∷_}
+use mathlib.Core.List.{List, [], _++_}
 use Prim.Native.Nat.{suc, zero, ℕ, _%_, _*_, _+_, _/_}
 use lib.Dec.{eqb, ltb}
 use lib.ListN.{drop, getD, length, take}
 use Rattle.report.specs.Layout.{endingAt, flagAt, numberAt, pcAt, reportSize, statesAt, stepsAt}
-use Rattle.word.specs.Bytes.{wordFrom}
-use Rattle.listing.specs.Text.{ascii, decimalOf, hexOf}
+use Rattle.endian.specs.Bytes.{wordFrom}
+use Rattle.text.specs.Text.{ascii, decimalOf, hexOf}
 
 abbrev pub space : List ℕ
 space = ascii " "

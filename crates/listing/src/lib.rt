@@ -4,7 +4,7 @@ ghost use Prim.Native.Nat.{min, _/_, _≤_};
 ghost use lib.ListN.{length};
 ghost use Rattle.report.specs.Layout.{reportSize};
 ghost use Rattle.listing.specs.Listing as def;
-ghost use Rattle.listing.specs.Written.{WroteText};
+ghost use Rattle.text.specs.Written.{WroteText};
 use line::put_line;
 use report::REPORT;
 use text::put;
@@ -12,7 +12,6 @@ use text::put_decimal;
 use text::put_text;
 
 mod line;
-mod text;
 
 // How many runs a report tells of, in a line.
 fn put_runs(text: &mut [u8], runs: u64) -> usize

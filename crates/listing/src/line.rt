@@ -3,21 +3,21 @@ ghost use mathlib.Core.List.{_++_};
 ghost use Prim.Native.Nat.{_*_, _+_, _≤_};
 ghost use lib.ListN.{getD, length};
 ghost use Rattle.report.specs.Layout.{endingAt, flagAt, numberAt, pcAt, reportSize, statesAt, stepsAt};
-ghost use Rattle.word.specs.Bytes.{wordFrom};
+ghost use Rattle.endian.specs.Bytes.{wordFrom};
 ghost use Rattle.listing.specs.Listing as def;
-ghost use Rattle.listing.specs.Text.{decimalOf, hexOf};
-ghost use Rattle.listing.specs.Written.{WroteText};
-use crate::text::put;
-use crate::text::put_decimal;
-use crate::text::put_hex;
-use crate::text::put_text;
+ghost use Rattle.text.specs.Text.{decimalOf, hexOf};
+ghost use Rattle.text.specs.Written.{WroteText};
+use endian::word_from;
 use report::ENDING;
 use report::FLAG;
 use report::NUMBER;
 use report::PC;
 use report::STATES;
 use report::STEPS;
-use word::word_from;
+use text::put;
+use text::put_decimal;
+use text::put_hex;
+use text::put_text;
 
 fn put_ending(text: &mut [u8], at: usize, ending: u8) -> usize
     requires { ⌜ at ≤ length (now text) ⌝ }

@@ -7,8 +7,8 @@ use Prim.Native.Nat.{ℕ}
 use lib.Dec.{leb}
 use borrow.Author.Tests.{ne-eqb}
 use Rattle.decode.specs.Code.{ADD, ADDS, AND, CALL, CMP, DIV, HALT, IN, LD, LDFLAG, MOD, MUL, OR, OUT, POP, PUSH, RET, RETI, SHRA, SHRL, SUB, XOR}
-use Rattle.word.specs.Alu.{shlOf}
-use Rattle.word.specs.declared.alu.Alu.{Alu}
+use Rattle.alu.specs.Alu.{shlOf}
+use Rattle.alu.specs.declared.Alu.{Alu}
 use Rattle.machine.specs.Execute.{aluOf, bodyOf, withResult}
 use Rattle.machine.specs.Register.{withReg}
 use Rattle.plan.specs.declared.Operation.{Operation}

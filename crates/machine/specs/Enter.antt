@@ -5,7 +5,7 @@ use mathlib.Core.Bool.{cond}
 use mathlib.Core.List.{List}
 use Prim.Native.Nat.{ℕ, _%_, _*_}
 use lib.Dec.{eqb}
-use Rattle.mmu.specs.Memory.{storeWord, wordAt}
+use Rattle.memory.specs.Memory.{storeWord, wordAt}
 use Rattle.status.specs.Flag.{kernelFlags}
 use Rattle.word.specs.Word.{minus, plus}
 use Rattle.machine.specs.Flag.{flagOf}

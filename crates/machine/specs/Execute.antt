@@ -4,9 +4,9 @@ use mathlib.Core.Bool.{cond, _&&_}
 use Prim.Native.Nat.{ℕ}
 use lib.Dec.{eqb, leb}
 use Rattle.decode.specs.Code.{ADD, ADDS, AND, CALL, CMP, DIV, HALT, IN, LD, LDFLAG, MOD, MUL, OR, OUT, POP, PUSH, RET, RETI, SHRA, SHRL, SUB, XOR}
-use Rattle.word.specs.Alu.{addOf, addsOf, andOf, divOf, modOf, mulOf, orOf, shlOf, shraOf, shrlOf, subOf, xorOf}
+use Rattle.alu.specs.Alu.{addOf, addsOf, andOf, divOf, modOf, mulOf, orOf, shlOf, shraOf, shrlOf, subOf, xorOf}
 use Rattle.word.specs.Word.{minus, plus}
-use Rattle.word.specs.declared.alu.Alu.{Alu}
+use Rattle.alu.specs.declared.Alu.{Alu}
 use Rattle.machine.specs.Flag.{withFlag}
 use Rattle.machine.specs.Ports.{afterIn, afterOut, portValue}
 use Rattle.machine.specs.Register.{spOf, withReg, withSp}

@@ -12,14 +12,14 @@ use Rattle.decode.specs.declared.Instruction.{Instruction}
 use Rattle.mmu.specs.Access.{wordAccess}
 use Rattle.mmu.specs.Entry.{marked}
 use Rattle.mmu.specs.Laws.{access-keeps, byte-cases, word-cases}
-use Rattle.mmu.specs.Memory.{stored}
+use Rattle.memory.specs.Memory.{stored}
 use Rattle.mmu.specs.declared.Access.{Access}
 use Rattle.mmu.specs.declared.Access.the-variants as access
 use Rattle.mmu.specs.declared.Accessed.{Accessed}
 use Rattle.mmu.specs.declared.Right.{Right}
 use Rattle.mmu.specs.declared.Right.the-variants.{Execute, Read, Write}
-use Rattle.mmu.specs.declared.Store.{Store}
-use Rattle.mmu.specs.declared.Store.the-variants as store
+use Rattle.memory.specs.declared.Store.{Store}
+use Rattle.memory.specs.declared.Store.the-variants as store
 use Rattle.word.specs.Cases.{either}
 use Rattle.word.specs.Word.{plus}
 use Rattle.machine.specs.Enter.{Outcome, enterOf, pushed}
@@ -30,12 +30,12 @@ use Rattle.machine.specs.PlanLaws.{plan-by}
 use Rattle.machine.specs.State.{withTlb}
 use Rattle.machine.specs.Step.{commit, stepOf}
 use Rattle.machine.specs.StepLaws.{enter-by}
-use Rattle.plan.specs.Transfer.{readSecond, transferOf}
+use Rattle.transfer.specs.Transfer.{readSecond, transferOf}
 use Rattle.machine.specs.declared.Condition.{Condition}
 use Rattle.machine.specs.declared.Event.{Event}
 use Rattle.machine.specs.declared.Event.the-variants as event
-use Rattle.plan.specs.declared.Need.{Need}
-use Rattle.plan.specs.declared.Need.the-variants.{ReadByte, ReadTwo, ReadWord, Value, WriteByte, WriteWord}
+use Rattle.transfer.specs.declared.Need.{Need}
+use Rattle.transfer.specs.declared.Need.the-variants.{ReadByte, ReadTwo, ReadWord, Value, WriteByte, WriteWord}
 use Rattle.plan.specs.declared.Operation.{Operation}
 use Rattle.plan.specs.declared.Plan.{Plan}
 use Rattle.plan.specs.declared.Plan.the-variants.{Interrupt, Perform, Trap, Violation}

@@ -11,27 +11,27 @@ use Rattle.decode.specs.declared.First.the-variants.{Defined, Undefined}
 use Rattle.decode.specs.declared.Instruction.{Instruction}
 use Rattle.decode.specs.declared.Privilege.{Privilege}
 use Rattle.decode.specs.declared.Shape.{Shape}
-use Rattle.mmu.specs.Memory.{wordAt}
+use Rattle.memory.specs.Memory.{wordAt}
 use Rattle.mmu.specs.declared.Access.{Access}
 use Rattle.mmu.specs.declared.Access.the-variants as access
 use Rattle.mmu.specs.declared.Accessed.{Accessed}
 use Rattle.plan.specs.End.{endOf, notPermitted, undefinedWord}
-use Rattle.plan.specs.Need.{addressOf, needOf, valueStored}
-use Rattle.plan.specs.Transfer.{fetchOf, transferOf}
+use Rattle.transfer.specs.Need.{addressOf, needOf, valueStored}
+use Rattle.transfer.specs.Transfer.{fetchOf, transferOf}
 use Rattle.status.specs.Flag.{permittedIn, takenOn}
 use Rattle.status.specs.Lines.{interruptIn, lowestLine}
 use Rattle.word.specs.Word.{plus}
 use Rattle.machine.specs.Flag.{flagOf}
 use Rattle.machine.specs.Register.{regOf, spOf}
 use Rattle.machine.specs.State.{withTlb}
-use Rattle.plan.specs.declared.Need.{Need}
+use Rattle.transfer.specs.declared.Need.{Need}
 use Rattle.plan.specs.declared.Plan.{Plan}
 use Rattle.plan.specs.declared.Plan.the-variants.{Interrupt, Trap, Violation}
 use Rattle.machine.specs.declared.Planned.{Planned}
 use Rattle.machine.specs.declared.State.{State}
-use Rattle.plan.specs.declared.Transfer.{Transfer}
-use Rattle.plan.specs.declared.Transfer.the-variants as transfer
-use Rattle.plan.specs.declared.Transferred.{Transferred}
+use Rattle.transfer.specs.declared.Transfer.{Transfer}
+use Rattle.transfer.specs.declared.Transfer.the-variants as transfer
+use Rattle.transfer.specs.declared.Transferred.{Transferred}
 
 abbrev pub planned : Plan → State → Planned
 planned p st = record { plan = p; state = st }

@@ -20,7 +20,7 @@ use Rattle.plan.specs.declared.Plan.the-variants.{Interrupt, Trap, Violation}
 use Rattle.machine.specs.declared.Planned.{Planned}
 use Rattle.plan.specs.declared.Ready.{Ready}
 use Rattle.machine.specs.declared.State.{State}
-use Rattle.mmu.specs.Memory.{wordAt}
+use Rattle.memory.specs.Memory.{wordAt}
 use Rattle.mmu.specs.declared.Access.{Access}
 use Rattle.mmu.specs.declared.Access.the-variants as access
 use Rattle.mmu.specs.declared.Accessed.{Accessed}

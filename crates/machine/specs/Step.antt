@@ -3,7 +3,7 @@
 use mathlib.Core.List.{List}
 use Prim.Native.Nat.{ℕ}
 use Rattle.mmu.specs.Answers.{faultNumber}
-use Rattle.mmu.specs.Memory.{stored}
+use Rattle.memory.specs.Memory.{stored}
 use Rattle.status.specs.Lines.{without}
 use Rattle.machine.specs.Enter.{Outcome, enterOf}
 use Rattle.machine.specs.Execute.{afterOperation, eventOf}

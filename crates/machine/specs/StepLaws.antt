@@ -1,13 +1,13 @@
 -- Laws of an instruction, a kernel entry, a step and a run: what is shown of each of their ways holds of them.
 -- Assumes nothing.
-use mathlib.Core.Bool.{false, true, _&&_}
+use mathlib.Core.Bool.{_&&_}
 use mathlib.Core.List.{List}
-use mathlib.Core.Path.{_≡_, refl, _∙_}
+use mathlib.Core.Path.{_≡_}
 use Prim.Native.Nat.{ℕ, suc, zero, _%_, _+_}
 use borrow.Author.Tests.{eqb-true}
 use lib.Dec.{eqb, leb}
 use Rattle.decode.specs.Code.{ADD, CALL, CMP, HALT, IN, LD, LDFLAG, OUT, POP, PUSH, RET, RETI, SHRL}
-use Rattle.word.specs.Alu.{subOf}
+use Rattle.alu.specs.Alu.{subOf}
 use Rattle.word.specs.Cases.{either}
 use Rattle.word.specs.Word.{minus, plus}
 use Rattle.machine.specs.Answers.{statesOf}

@@ -7,8 +7,8 @@ use crate::Condition;
 use crate::Event;
 use crate::State;
 use crate::Stepped;
-use mmu::store_word;
-use mmu::word_at;
+use memory::store_word;
+use memory::word_at;
 use word::minus;
 use word::plus;
 

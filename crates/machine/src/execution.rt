@@ -7,9 +7,9 @@ ghost use Rattle.word.specs.Word as words;
 use crate::Condition;
 use crate::Event;
 use crate::State;
+use alu::Alu;
 use decode::code::*;
 use plan::Operation;
-use word::Alu;
 use word::minus;
 use word::plus;
 
@@ -18,18 +18,18 @@ fn alu(code: u8, a: u16, b: u16) -> Alu
     ensures { λ r. ⌜ r ≡ def.aluOf code a b ⌝ }
 {
     match code {
-        ADD => word::add(a, b),
-        SUB => word::sub(a, b),
-        AND => word::and(a, b),
-        OR => word::or(a, b),
-        XOR => word::xor(a, b),
-        ADDS => word::adds(a, b),
-        MUL => word::mul(a, b),
-        DIV => word::div(a, b),
-        MOD => word::modulo(a, b),
-        SHRA => word::shra(a, b),
-        SHRL => word::shrl(a, b),
-        _ => word::shl(a, b),
+        ADD => alu::add(a, b),
+        SUB => alu::sub(a, b),
+        AND => alu::and(a, b),
+        OR => alu::or(a, b),
+        XOR => alu::xor(a, b),
+        ADDS => alu::adds(a, b),
+        MUL => alu::mul(a, b),
+        DIV => alu::div(a, b),
+        MOD => alu::modulo(a, b),
+        SHRA => alu::shra(a, b),
+        SHRL => alu::shrl(a, b),
+        _ => alu::shl(a, b),
     }
 }
 
@@ -82,7 +82,7 @@ impl State {
         let code = op.code;
         match code {
             LD => self.set_register(op.rd, op.source),
-            CMP => self.set_flags(word::sub(op.held, op.source)),
+            CMP => self.set_flags(alu::sub(op.held, op.source)),
             LDFLAG => self.set_register(op.rd, op.source),
             CALL => self.set_sp(minus(self.sp(), 2)),
             IN => {

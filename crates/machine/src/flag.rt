@@ -3,8 +3,8 @@ ghost use mathlib.Core.Path.{_≡_};
 ghost use Rattle.machine.specs.Execute.{withResult};
 ghost use Rattle.machine.specs.Flag.{withFlag};
 use crate::State;
+use alu::Alu;
 use status::Flags;
-use word::Alu;
 
 impl State {
     // FLAG loaded from a word.

@@ -2,13 +2,13 @@
 ghost use mathlib.Core.Path.{_≡_};
 ghost use Rattle.machine.specs.Flag.{flagOf};
 ghost use Rattle.machine.specs.Register.{regOf, spOf};
-ghost use Rattle.plan.specs.Need as def;
+ghost use Rattle.transfer.specs.Need as def;
 use crate::State;
 use crate::register::FP;
 use decode::DataAccess;
 use decode::Operand;
-use plan::Need;
-use plan::store_need;
+use transfer::Need;
+use transfer::store_need;
 use word::minus;
 use word::plus;
 use word::to_word;

@@ -10,15 +10,15 @@ use decode::First;
 use decode::Instruction;
 use decode::Shape;
 use decode::Table;
+use memory::word_at;
 use mmu::Access;
-use mmu::word_at;
 use plan::NOT_PERMITTED;
 use plan::Plan;
 use plan::Ready;
-use plan::Transfer;
 use plan::UNDEFINED;
-use plan::transfer_for;
-use plan::value_stored;
+use transfer::Transfer;
+use transfer::transfer_for;
+use transfer::value_stored;
 use word::plus;
 
 impl State {
@@ -110,7 +110,7 @@ impl State {
         if shape.second {
             let a = following;
             let tlb = self.tlb;
-            let x = plan::fetch(self.translates(), tlb, a);
+            let x = transfer::fetch(self.translates(), tlb, a);
             let marks = x.tlb;
             let access = x.access;
             state = self.set_tlb(marks);
@@ -161,7 +161,7 @@ impl State {
         ensures { λ r. ⌜ r ≡ def.planFetch self (now (mem .entry)) ⌝ }
     {
         let tlb = self.tlb;
-        let x = plan::fetch(self.translates(), tlb, self.pc);
+        let x = transfer::fetch(self.translates(), tlb, self.pc);
         let marks = x.tlb;
         let access = x.access;
         let state = self.set_tlb(marks);

@@ -7,7 +7,7 @@ use crate::State;
 use crate::Stepped;
 use crate::execution::event_of;
 use decode::Table;
-use mmu::make_store;
+use memory::make_store;
 use plan::Plan;
 use status::fault_number;
 use status::without;

@@ -6,4 +6,3 @@ pub mod Grants
 pub mod Laws
 pub mod Lookup
 pub mod Marks
-pub mod Memory

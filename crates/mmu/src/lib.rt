@@ -1,15 +1,10 @@
-// Memory and the MMU: bytes and words by physical address, TLB entries, the lookup of a page, an access.
+// The MMU: TLB entries, the lookup of a page, an access.
 mod accesses;
 mod entry;
 mod lookups;
-mod memory;
 
 pub use accesses::byte_access;
 pub use accesses::word_access;
-pub use memory::byte_at;
-pub use memory::make_store;
-pub use memory::store_word;
-pub use memory::word_at;
 
 // What a right is asked for.
 pub enum Right {
@@ -44,11 +39,4 @@ pub enum Access {
 pub struct Accessed {
     pub access: Access,
     pub tlb: [u32; 8],
-}
-
-// What an instruction stores: nothing, or a word or a byte at a physical address.
-pub enum Store {
-    Nothing,
-    Word(u16, u16),
-    Byte(u16, u16),
 }

@@ -4,7 +4,7 @@ use mathlib.Core.Bool.{Bool, false, false≢true, true}
 use mathlib.Core.List.{List}
 use mathlib.Core.Path.{sym, _∙_, _≡_}
 use Prim.Native.Nat.{ℕ}
-use Rattle.mmu.specs.Memory.{byteAt, storeByte, storeWord, wordAt}
+use Rattle.memory.specs.Memory.{byteAt, storeByte, storeWord, wordAt}
 use Rattle.mmu.specs.declared.Right.{Right}
 use Rattle.mmu.specs.declared.Right.the-variants as right
 use Rattle.pages.specs.Maps.{Placed}

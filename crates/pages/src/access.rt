@@ -2,7 +2,7 @@
 ghost use mathlib.Core.Path.{_≡_};
 ghost use Prim.Native.Nat.{_%_, _<_};
 ghost use lib.ListN.{length};
-ghost use Rattle.mmu.specs.Memory.{wordAt};
+ghost use Rattle.memory.specs.Memory.{wordAt};
 ghost use Rattle.mmu.specs.declared.Right.the-variants as right;
 ghost use Rattle.pages.specs.Accesses.{Reads, Writes};
 ghost use Rattle.pages.specs.Maps.{Placed, bytesOf};

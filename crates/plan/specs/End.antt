@@ -5,7 +5,7 @@ use Prim.Native.Nat.{ℕ, _+_}
 use lib.Dec.{eqb}
 use Rattle.decode.specs.declared.Flow.{Flow}
 use Rattle.decode.specs.declared.Flow.the-variants as flow
-use Rattle.word.specs.Alu.{places}
+use Rattle.alu.specs.Alu.{places}
 use Rattle.plan.specs.declared.Plan.{Plan}
 use Rattle.plan.specs.declared.Plan.the-variants.{Perform, Trap}
 use Rattle.plan.specs.declared.Ready.{Ready}

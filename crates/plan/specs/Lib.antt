@@ -1,3 +1,1 @@
 pub mod End
-pub mod Need
-pub mod Transfer

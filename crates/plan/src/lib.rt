@@ -1,14 +1,8 @@
-// What a step is going to do, from the parts of the state: the data access of an instruction, the last tests, the plan.
-mod data;
-mod stores;
+// What a step is going to do: the last tests of an instruction, the plan.
 mod tests;
 
-pub use data::fetch;
-pub use data::transfer_for;
+use memory::Store;
 use mmu::Fault;
-use mmu::Store;
-pub use stores::store_need;
-pub use stores::value_stored;
 pub use tests::end;
 
 // The numbers of the entries that are no access's and no interrupt's.
@@ -19,29 +13,6 @@ pub const NOT_PERMITTED: u8 = 13;
 pub const UNDEFINED: u8 = 14;
 
 pub const SERVICE_CALL: u8 = 15;
-
-// The data access of an instruction: a value that needs none, or the logical address of a word or a byte, or of the first of two words.
-pub enum Need {
-    Value(u16),
-    ReadWord(u16),
-    ReadByte(u16),
-    ReadTwo(u16),
-    WriteWord(u16),
-    WriteByte(u16),
-}
-
-// The data access done: the operand's value, the second word of two, and what is to be stored; or why the access to a logical address is not
-// granted.
-pub enum Transfer {
-    Done(u16, u16, Store),
-    Fails(Fault, u16),
-}
-
-// A data access, and the TLB with its marks.
-pub struct Transferred {
-    pub transfer: Transfer,
-    pub tlb: [u32; 8],
-}
 
 // An instruction before its last tests.
 pub struct Ready {

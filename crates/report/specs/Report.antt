@@ -8,7 +8,7 @@ use Rattle.machine.specs.Flag.{flagOf}
 use Rattle.machine.specs.Run.{Ran}
 use Rattle.machine.specs.declared.Ending.{Ending}
 use Rattle.machine.specs.declared.Ending.the-variants as ending
-use Rattle.word.specs.Bytes.{wordBytes}
+use Rattle.endian.specs.Bytes.{wordBytes}
 
 -- PC as the report has it: the saved one if entered
 abbrev pub pcShown : Ending → ℕ → ℕ

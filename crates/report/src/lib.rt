@@ -82,5 +82,5 @@ pub fn write_report(report: &mut [u8], ending: Ending, pc: u16, flag: u16, steps
     ];
     report[ENDING] = ending_number(ending);
     report[NUMBER] = ending_entered(ending);
-    word::put_words(report, STEPS, &words);
+    endian::put_words(report, STEPS, &words);
 }

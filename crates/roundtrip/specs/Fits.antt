@@ -16,33 +16,33 @@ use Rattle.decode.specs.declared.Instruction.{Instruction}
 use Rattle.decode.specs.declared.Operand.{Operand}
 use Rattle.machine.specs.Flag.{flagOf}
 use Rattle.machine.specs.Kept.{fetch-keeps, withMark}
-use Rattle.plan.specs.Need.{addressOf, loadNeed, needOf, storeNeed, valueStored}
+use Rattle.transfer.specs.Need.{addressOf, loadNeed, needOf, storeNeed, valueStored}
 use Rattle.machine.specs.Plan.{planOf, planOperand, planTransfer, translates}
 use Rattle.plan.specs.End.{endOf, performs}
 use Rattle.machine.specs.PlanLaws.{plan-by}
 use Rattle.machine.specs.Register.{regIn, regOf, spIn, spOf}
-use Rattle.plan.specs.Transfer.{readSecond, transferAt, transferOf}
-use Rattle.plan.specs.declared.Need.{Need}
-use Rattle.plan.specs.declared.Need.the-variants.{ReadByte, ReadTwo, ReadWord, Value, WriteByte, WriteWord}
+use Rattle.transfer.specs.Transfer.{readSecond, transferAt, transferOf}
+use Rattle.transfer.specs.declared.Need.{Need}
+use Rattle.transfer.specs.declared.Need.the-variants.{ReadByte, ReadTwo, ReadWord, Value, WriteByte, WriteWord}
 use Rattle.plan.specs.declared.Operation.{Operation}
 use Rattle.plan.specs.declared.Plan.{Plan}
 use Rattle.plan.specs.declared.Plan.the-variants.{Interrupt, Perform, Trap, Violation}
 use Rattle.machine.specs.declared.Planned.{Planned}
 use Rattle.plan.specs.declared.Ready.{Ready}
 use Rattle.machine.specs.declared.State.{State}
-use Rattle.plan.specs.declared.Transfer.{Transfer}
-use Rattle.plan.specs.declared.Transfer.the-variants as transfer
+use Rattle.transfer.specs.declared.Transfer.{Transfer}
+use Rattle.transfer.specs.declared.Transfer.the-variants as transfer
 use Rattle.mmu.specs.Access.{byteAccess, wordAccess}
 use Rattle.mmu.specs.Entry.{marked}
 use Rattle.mmu.specs.Marks.{Like, marked-like}
-use Rattle.mmu.specs.Memory.{wordAt}
+use Rattle.memory.specs.Memory.{wordAt}
 use Rattle.mmu.specs.declared.Access.{Access}
 use Rattle.mmu.specs.declared.Access.the-variants as access
 use Rattle.mmu.specs.declared.Accessed.{Accessed}
 use Rattle.mmu.specs.declared.Right.{Right}
 use Rattle.mmu.specs.declared.Right.the-variants.{Read, Write}
-use Rattle.mmu.specs.declared.Store.{Store}
-use Rattle.mmu.specs.declared.Store.the-variants as store
+use Rattle.memory.specs.declared.Store.{Store}
+use Rattle.memory.specs.declared.Store.the-variants as store
 use Rattle.word.specs.Cases.{either}
 use Rattle.word.specs.Laws.{signed4-word, wrap-fits}
 use Rattle.word.specs.Word.{plus}

@@ -8,10 +8,11 @@ use native.Mathlib.Omega.{arith}
 use borrow.Author.Tests.{eq-eqb, eqb-true, lt-ltb}
 use lib.ListN.{getD, length}
 use mir.Val.{boolByte}
-use Rattle.image.specs.Decode.{tlbEntriesFrom, stateFrom}
-use Rattle.image.specs.Image.{entryBytes, imageOf}
-use Rattle.image.specs.Layout.{imageSize, tlbAt}
-use Rattle.image.specs.Valid.{allZeros, flagGood, goodImage, pendingGood, zerosGood}
+use Rattle.layout.specs.Entries.{tlbEntriesFrom, entryBytes}
+use Rattle.image.specs.Decode.{stateFrom}
+use Rattle.image.specs.Image.{imageOf}
+use Rattle.layout.specs.Layout.{imageSize, tlbAt}
+use Rattle.layout.specs.Valid.{allZeros, flagGood, goodImage, pendingGood, zerosGood}
 use Rattle.machine.specs.Answers.{conditionNumber}
 use Rattle.status.specs.Flag.{flagWord, wordOf}
 use Rattle.machine.specs.Spelled.{spelled, whole}
@@ -20,7 +21,7 @@ use Rattle.machine.specs.declared.Condition.{Condition}
 use Rattle.machine.specs.declared.Condition.the-variants.{Halted, Lost, Running}
 use Rattle.status.specs.declared.Flags.{Flags}
 use Rattle.machine.specs.declared.State.{State}
-use Rattle.word.specs.Bytes.{wordBytes}
+use Rattle.endian.specs.Bytes.{wordBytes}
 use Rattle.word.specs.Cases.{both, rest, this}
 use Rattle.word.specs.Word.{bit}
 use Rattle.roundtrip.specs.Images.{Fields, fields}

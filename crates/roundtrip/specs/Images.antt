@@ -8,20 +8,20 @@ use native.Mathlib.Nat.{div-div-eq-div-mul, div-one, pow-suc}
 use native.Mathlib.Omega.{arith}
 use borrow.Author.Tests.{eqb-false, eqb-true, ltb-true}
 use lib.Dec.{eqb, ltb}
-use lib.ListN.{length}
 use mir.Val.{boolByte}
 use Rattle.image.specs.Decode.{conditionFrom, stateFrom}
-use Rattle.image.specs.Image.{entryBytes, imageOf}
-use Rattle.image.specs.Layout.{causeAt, conditionAt, flagAt, imageSize, mmuAt, pendingAt, tlbAt}
-use Rattle.image.specs.Valid.{allZeros, flagGood, goodImage, pendingGood}
+use Rattle.layout.specs.Entries.{entryBytes}
+use Rattle.image.specs.Image.{imageOf}
+use Rattle.layout.specs.Layout.{causeAt, conditionAt, flagAt, imageSize, mmuAt, pendingAt, tlbAt}
+use Rattle.layout.specs.Valid.{allZeros, flagGood, goodImage, pendingGood}
 use Rattle.machine.specs.Answers.{conditionNumber}
 use Rattle.status.specs.Flag.{flagWord}
 use Rattle.machine.specs.Spelled.{spelled, whole}
 use Rattle.machine.specs.declared.Condition.the-variants.{Halted, Lost, Running}
-use Rattle.word.specs.Bytes.{byteFrom, wordBytes, wordFrom}
+use Rattle.endian.specs.Bytes.{byteFrom, wordBytes, wordFrom}
 use Rattle.word.specs.Cases.{rest, this}
 use Rattle.word.specs.Word.{bit, isSet}
-use Rattle.roundtrip.specs.Statement.{Bytes, Encoded}
+use Rattle.roundtrip.specs.Statement.{Encoded}
 
 -- ---- the tests of an image
 

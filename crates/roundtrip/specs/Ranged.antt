@@ -8,15 +8,16 @@ use Prim.Native.Nat.{ℕ, suc, zero, _+_, _*_, _/_, _%_, _<_}
 use native.Mathlib.Omega.{arith}
 use lib.Dec.{eqb}
 use mir.Val.{boolByte}
-use Rattle.image.specs.Decode.{conditionFrom, tlbEntriesFrom, stateFrom}
-use Rattle.image.specs.Image.{entryBytes, imageOf}
-use Rattle.image.specs.Layout.{inputAt, missedAt, outputAt, pcAt, regsAt, sspAt, tlbAt, uspAt, violationAt}
+use Rattle.image.specs.Decode.{conditionFrom, stateFrom}
+use Rattle.layout.specs.Entries.{tlbEntriesFrom, entryBytes}
+use Rattle.image.specs.Image.{imageOf}
+use Rattle.layout.specs.Layout.{inputAt, missedAt, outputAt, pcAt, regsAt, sspAt, tlbAt, uspAt, violationAt}
 use Rattle.machine.specs.Answers.{conditionNumber}
 use Rattle.machine.specs.Flag.{flagOf}
 use Rattle.machine.specs.declared.Condition.{Condition}
 use Rattle.machine.specs.declared.Condition.the-variants.{Halted, Lost, Running}
 use Rattle.machine.specs.declared.State.{State}
-use Rattle.word.specs.Bytes.{wordBytes, wordFrom, wordsFrom}
+use Rattle.endian.specs.Bytes.{wordBytes, wordFrom, wordsFrom}
 use Rattle.roundtrip.specs.Each.{each-append, each-cons}
 use Rattle.roundtrip.specs.Good.{bit-small, condition-small, flag-bits, spelled-out, spelledOut, word-back}
 use Rattle.roundtrip.specs.Statement.{Byte, Bytes, Decoded, Each, EntryFits, GoodState, Ranged, Word}

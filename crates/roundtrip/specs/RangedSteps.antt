@@ -23,15 +23,16 @@ use Rattle.plan.specs.declared.Plan.{Plan}
 use Rattle.plan.specs.declared.Plan.the-variants.{Interrupt, Perform, Trap, Violation}
 use Rattle.machine.specs.declared.State.{State}
 use Rattle.mmu.specs.Answers.{faultNumber}
-use Rattle.mmu.specs.Memory.{storeWord, stored}
+use Rattle.memory.specs.Memory.{storeWord, stored}
 use Rattle.mmu.specs.declared.Fault.{Fault}
 use Rattle.mmu.specs.declared.Fault.the-variants.{Missing, Odd, Refused}
-use Rattle.mmu.specs.declared.Store.{Store}
-use Rattle.mmu.specs.declared.Store.the-variants as store
+use Rattle.memory.specs.declared.Store.{Store}
+use Rattle.memory.specs.declared.Store.the-variants as store
 use Rattle.word.specs.Cases.{either}
-use Rattle.word.specs.Laws.{addOf-fits, addsOf-fits, andOf-fits, divOf-fits, modOf-fits, mulOf-fits, orOf-fits, shlOf-fits, shraOf-fits, shrlOf-fits, subOf-fits, wrap-fits, xorOf-fits}
+use Rattle.alu.specs.Laws.{addOf-fits, addsOf-fits, andOf-fits, divOf-fits, modOf-fits, mulOf-fits, orOf-fits, shlOf-fits, shraOf-fits, shrlOf-fits, subOf-fits, xorOf-fits}
+use Rattle.word.specs.Laws.{wrap-fits}
 use Rattle.word.specs.Word.{lower, minus, plus, upper}
-use Rattle.word.specs.declared.alu.Alu.{Alu}
+use Rattle.alu.specs.declared.Alu.{Alu}
 use Rattle.roundtrip.specs.Each.{each-set}
 use Rattle.roundtrip.specs.Fits.{OperationFits, PlanFits, StoreFits, mark-ranged, plan-fits, word-either, word-fits}
 use Rattle.roundtrip.specs.Good.{flag-bits}

@@ -1,14 +1,11 @@
 -- A run from a good state ends in a good one, from a ranged state in a ranged one, the image that it leaves is good if the image that it
 -- began with is, and it keeps the memory's length.
 -- Assumes nothing.
-use mathlib.Core.Bool.{true}
 use mathlib.Core.List.{List}
 use mathlib.Core.Path.{_≡_, refl, _∙_}
 use Prim.Native.Nat.{ℕ}
 use lib.ListN.{length}
 use Rattle.image.specs.Decode.{stateFrom}
-use Rattle.image.specs.Image.{imageOf}
-use Rattle.image.specs.Valid.{goodImage}
 use Rattle.machine.specs.Kept.{step-memory-long}
 use Rattle.machine.specs.Run.{runOf}
 use Rattle.machine.specs.StepLaws.{run-keeps}

@@ -7,8 +7,8 @@ use Prim.Native.Nat.{ℕ, _/_, _%_, _<_}
 use lib.ListN.{getD, length}
 use Rattle.image.specs.Decode.{stateFrom}
 use Rattle.image.specs.Image.{imageOf}
-use Rattle.image.specs.Layout.{imageSize}
-use Rattle.image.specs.Valid.{goodImage}
+use Rattle.layout.specs.Layout.{imageSize}
+use Rattle.layout.specs.Valid.{goodImage}
 use Rattle.machine.specs.Run.{runOf}
 use Rattle.machine.specs.Step.{stepOf}
 use Rattle.machine.specs.declared.Event.{Event}

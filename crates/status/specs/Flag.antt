@@ -5,10 +5,10 @@ use Prim.Native.Nat.{ℕ, _*_, _+_}
 use mir.Val.{boolByte}
 use Rattle.decode.specs.declared.Privilege.{Privilege}
 use Rattle.decode.specs.declared.Privilege.the-variants.{Anyone, Kernel, Ports}
-use Rattle.word.specs.Jump.{conditionOf}
+use Rattle.jump.specs.Jump.{conditionOf}
 use Rattle.word.specs.Word.{isSet}
-use Rattle.word.specs.declared.jump.Test.{Test}
-use Rattle.word.specs.declared.jump.Test.the-variants as test
+use Rattle.jump.specs.declared.Test.{Test}
+use Rattle.jump.specs.declared.Test.the-variants as test
 use Rattle.status.specs.declared.Flags.{Flags}
 
 -- `boolByte` is 1 of a flag that is set, and 0 of one that is not

@@ -2,9 +2,9 @@
 ghost use mathlib.Core.Path.{_≡_};
 ghost use Rattle.status.specs.Flag as def;
 use crate::Flags;
+use alu::Alu;
 use decode::Privilege;
-use word::Alu;
-use word::Test;
+use jump::Test;
 
 impl Flags {
     // FLAG as a word.
@@ -88,7 +88,7 @@ impl Flags {
 pub fn taken(n: u8, v: bool, c: bool, s: bool, z: bool) -> bool
     ensures { λ r. ⌜ r ≡ def.takenOn n v c s z ⌝ }
 {
-    match word::condition(n, v, c, s, z) {
+    match jump::condition(n, v, c, s, z) {
         Test::Holds => true,
         Test::Fails => false,
         Test::Undefined => false,

@@ -3,9 +3,9 @@
 // case is written to standard output.
 ghost use Prim.Native.Nat.{_+_, _≤_};
 ghost use lib.ListN.{length};
-ghost use Rattle.image.specs.Layout.{imageSize};
-use image::FLAG;
-use image::IMAGE;
+ghost use Rattle.layout.specs.Layout.{imageSize};
+use layout::FLAG;
+use layout::IMAGE;
 
 fn least(a: usize, b: usize) -> usize
     ensures { λ r. ⌜ r ≤ a ⌝ }
@@ -44,10 +44,14 @@ fn run_case(cases: &[u8], at: usize) -> usize
     ensures { λ r. ⌜ r ≤ length (now (cases .entry)) ⌝ }
 {
     let absent = least(cases[at + 2] as usize, IMAGE);
-    let lacks = word::word_from(cases, at) as usize;
-    let room = least(word::word_from(cases, at + 5) as usize, 16380);
+    let lacks = endian::word_from(cases, at) as usize;
+    let room = least(endian::word_from(cases, at + 5) as usize, 16380);
     let start = at + 9;
-    let end = start + least(word::word_from(cases, at + 7) as usize, cases.len() - start);
+    let end = start
+        + least(
+            endian::word_from(cases, at + 7) as usize,
+            cases.len() - start,
+        );
     let high = cases[at + 3];
     let low = cases[at + 4];
     if list_case(&cases[start..end], lacks, absent, high, low, room) {

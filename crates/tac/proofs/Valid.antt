@@ -4,9 +4,9 @@ use mathlib.Core.List.{List}
 use mathlib.Core.Path.{refl, _≡_}
 use Prim.Native.Nat.{ℕ, _≤_}
 use lib.ListN.{length}
-use Rattle.image.specs.Laws.{MachineGood, machine-good}
-use Rattle.image.specs.Layout.{imageSize}
-use Rattle.image.specs.Valid.{machineValid}
+use Rattle.layout.specs.Laws.{MachineGood, machine-good}
+use Rattle.layout.specs.Layout.{imageSize}
+use Rattle.layout.specs.Valid.{machineValid}
 use Rattle.machine.specs.Run.{ran, runFrom, runOf, stoppedEnding, unlessStopped}
 use Rattle.machine.specs.declared.Condition.the-variants as condition
 use Rattle.machine.specs.declared.Condition.{Condition}

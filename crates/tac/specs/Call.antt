@@ -7,7 +7,7 @@ use lib.ListN.{drop, length}
 use Rattle.refusal.specs.Call.{Call, unlessRefused}
 use Rattle.image.specs.Decode.{stateFrom}
 use Rattle.image.specs.Image.{imageOf}
-use Rattle.image.specs.Valid.{machineValid}
+use Rattle.layout.specs.Valid.{machineValid}
 use Rattle.refusal.specs.Refusal.{andThen, reportFits}
 use Rattle.report.specs.Layout.{reportSize}
 use Rattle.report.specs.Report.{reportOfRan}

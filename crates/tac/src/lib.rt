@@ -6,7 +6,7 @@ ghost use lib.ListN.{drop, length};
 ghost use Rattle.card.specs.Call.{cardCall};
 ghost use Rattle.image.specs.Decode.{stateFrom};
 ghost use Rattle.image.specs.Image.{imageOf};
-ghost use Rattle.image.specs.Layout.{imageSize};
+ghost use Rattle.layout.specs.Layout.{imageSize};
 ghost use Rattle.machine.specs.Flag.{flagOf};
 ghost use Rattle.machine.specs.Run.{runOf, stoppedEnding};
 ghost use Rattle.report.specs.Layout.{reportSize};
@@ -22,7 +22,7 @@ fn validate(memory: usize, image: &[u8], report: usize) -> Validity
     ensures { λ r. ⌜ r ≡ def.runValid memory (now (image .entry)) report ⌝ }
 {
     refusal::and_then(
-        image::validate(memory, image),
+        layout::validate(memory, image),
         refusal::report_fits(report, REPORT),
     )
 }

@@ -1,31 +1,9 @@
-// Words of 16 bits: results and flags of the arithmetic, logic and shift instructions, signed operands, jump conditions, words in bytes.
-mod alu;
-mod bytes;
-mod jump;
+// Words of 16 bits: sums and differences that wrap, words and four-bit fields as signed numbers.
 mod signed;
 mod word;
 
-pub use alu::Alu;
-pub use alu::add;
-pub use alu::adds;
-pub use alu::and;
-pub use alu::div;
-pub use alu::modulo;
-pub use alu::mul;
-pub use alu::or;
-pub use alu::shl;
-pub use alu::shra;
-pub use alu::shrl;
-pub use alu::sub;
-pub use alu::xor;
-pub use bytes::put_bytes;
-pub use bytes::put_word;
-pub use bytes::put_words;
-pub use bytes::word_from;
-pub use bytes::words_from;
-pub use jump::Test;
-pub use jump::condition;
 pub use signed::sign_extend;
+pub use signed::to_signed;
 pub use signed::to_word;
 pub use word::minus;
 pub use word::plus;

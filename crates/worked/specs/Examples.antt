@@ -12,20 +12,20 @@ use Rattle.machine.specs.Answers.{statesOf}
 use Rattle.machine.specs.Enter.{enterOf, pushed}
 use Rattle.machine.specs.Execute.{afterOperation, aluOf, bodyOf, eventOf}
 use Rattle.status.specs.Flag.{flagWord}
-use Rattle.plan.specs.Need.{addressOf, loadNeed, needOf, storeNeed, valueStored}
+use Rattle.transfer.specs.Need.{addressOf, loadNeed, needOf, storeNeed, valueStored}
 use Rattle.machine.specs.Plan.{planFetch, planFirst, planOf, planOperand, planSecond}
 use Rattle.status.specs.Lines.{interruptIn}
 use Rattle.plan.specs.End.{endOf}
 use Rattle.machine.specs.Ports.{causeAfter, mmuAfter, outputAfter, portIn, tlbAfter, tlbPort}
 use Rattle.machine.specs.Register.{regIn, regsAfter, spIn, sspAfter, sspWith, uspAfter, uspWith}
 use Rattle.machine.specs.Step.{commit, stepOf}
-use Rattle.plan.specs.Transfer.{transferOf}
+use Rattle.transfer.specs.Transfer.{transferOf}
 use Rattle.machine.specs.declared.Event.the-variants.{Entered, Executed, Halted, Lost}
 use Rattle.mmu.specs.Access.{byEntry, byTlb, byteAccess, wordAccess}
 use Rattle.mmu.specs.Lookup.{lookupFrom, lookupOf}
-use Rattle.mmu.specs.Memory.{stored}
-use Rattle.word.specs.Alu.{addOf, addsOf, andOf, divOf, modOf, mulOf, orOf, shlOf, shraOf, shrlOf, subOf, xorOf}
-use Rattle.word.specs.Jump.{conditionOf, conditionUndefined}
+use Rattle.memory.specs.Memory.{stored}
+use Rattle.alu.specs.Alu.{addOf, addsOf, andOf, divOf, modOf, mulOf, orOf, shlOf, shraOf, shrlOf, subOf, xorOf}
+use Rattle.jump.specs.Jump.{conditionOf, conditionUndefined}
 use Rattle.word.specs.Signed.{signed4}
 use Rattle.worked.specs.Fields.{valueOf, valuesOf}
 use Rattle.worked.specs.Further.{entries, misreadings, pages, results}

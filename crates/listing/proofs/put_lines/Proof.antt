@@ -9,7 +9,7 @@ use lib.ListN.{drop, length, length-drop, take}
 use lib.Seq.{drop-drop, take-all}
 use Rattle.report.specs.Layout.{reportSize}
 use Rattle.listing.specs.Listing.{lineOf, linesOf}
-use Rattle.listing.proofs.Wrote.{Writing, nothing, same-room, then}
+use Rattle.text.specs.Wrote.{Writing, nothing, same-room, then}
 use Rattle.listing.proofs.put_lines.Statement.{statement}
 use Rattle.listing.proofs.put_lines.Tie as tie
 

@@ -2,7 +2,7 @@
 -- Assumes nothing.
 use borrow.Author.Needs.{needs}
 use Rattle.listing.specs.Listing.{runsText}
-use Rattle.listing.proofs.Wrote.{then}
+use Rattle.text.specs.Wrote.{then}
 use Rattle.listing.proofs.put_runs.Statement.{statement}
 use Rattle.listing.proofs.put_runs.Tie as tie
 

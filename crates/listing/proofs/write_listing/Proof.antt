@@ -3,7 +3,8 @@
 use borrow.Author.Needs.{needs}
 use borrow.Author.Tests.{le-ltb, lt-ltb}
 use Rattle.listing.specs.Listing.{listingOf}
-use Rattle.listing.proofs.Wrote.{then, whole}
+use Rattle.text.specs.Wrote.{then}
+use Rattle.listing.proofs.Whole.{whole}
 use Rattle.listing.proofs.write_listing.Statement.{statement}
 use Rattle.listing.proofs.write_listing.Tie as tie
 

@@ -6,7 +6,7 @@ use native.Mathlib.Omega.{arith}
 use lib.ListN.{length-replicate, replicate, set}
 use lib.Seq.{length-take-le}
 use borrow.Author.Needs.{needs}
-use Rattle.image.specs.Layout.{flagAt, imageSize}
+use Rattle.layout.specs.Layout.{flagAt, imageSize}
 use Rattle.stored.proofs.list_case.Statement.{statement}
 use Rattle.stored.proofs.list_case.Tie as tie
 

@@ -4,7 +4,8 @@ use mathlib.Core.Path.{refl}
 use lib.ListN.{length}
 use borrow.Author.Needs.{needs}
 use Rattle.card.specs.Call.{cardCall}
-use Rattle.card.specs.Passed.{Passed, passed, read-whole}
+use Rattle.card.specs.Passed.{Passed, passed}
+use Rattle.command.specs.Laws.{read-whole}
 use Rattle.card.proofs.calls.perform.Statement.{statement}
 use Rattle.card.proofs.calls.perform.Tie as tie
 

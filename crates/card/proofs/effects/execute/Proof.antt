@@ -5,7 +5,7 @@ use Prim.Native.Nat.{_-_}
 use lib.ListN.{length}
 use borrow.Author.Needs.{needs}
 use Rattle.card.proofs.Executes.{Executing, ended, goes-on, room-next, start}
-use Rattle.card.proofs.Turns.{Turn, at-bad, at-end, at-next, falls}
+use Rattle.command.specs.Turns.{Turn, at-bad, at-end, at-next, falls}
 use Rattle.card.proofs.effects.execute.Statement.{statement}
 use Rattle.card.proofs.effects.execute.Tie as tie
 

@@ -4,7 +4,7 @@ use mathlib.Core.Path.{_∙_}
 use borrow.Author.Needs.{needs}
 use Rattle.report.specs.Layout.{reportSize}
 use Rattle.report.specs.Report.{reportOf}
-use Rattle.card.specs.Parts.{front-of-part}
+use Rattle.command.specs.Parts.{front-of-part}
 use Rattle.card.proofs.effects.run_with_report.Statement.{statement}
 use Rattle.card.proofs.effects.run_with_report.Tie as tie
 

@@ -1,7 +1,7 @@
 -- `card::validity::validate` meets its contract.
 -- Assumes nothing.
 use borrow.Author.Needs.{needs}
-use Rattle.card.specs.Card.{cardValid}
+use Rattle.card.specs.Call.{cardValid}
 use Rattle.card.proofs.validity.validate.Statement.{statement}
 use Rattle.card.proofs.validity.validate.Tie as tie
 

@@ -1,7 +1,7 @@
 -- `image::encoder::put_between` meets its contract.
 -- Assumes nothing.
 use borrow.Author.Needs.{needs}
-use Rattle.word.specs.Bytes.{wordBytes}
+use Rattle.endian.specs.Bytes.{wordBytes}
 use Rattle.image.proofs.encoder.put_between.Statement.{statement}
 use Rattle.image.proofs.encoder.put_between.Tie as tie
 

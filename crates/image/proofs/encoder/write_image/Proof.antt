@@ -7,12 +7,13 @@ use native.Mathlib.Omega.{arith}
 use borrow.Author.Needs.{needs}
 use lib.ListN.{length, length-append}
 use lib.Seq.{sets}
-use Rattle.word.specs.ByteLaws.{laid-long, sets-all, sets-behind, words-laid}
-use Rattle.word.specs.Bytes.{wordBytes}
+use Rattle.endian.specs.Laws.{laid-long, sets-all, sets-behind, words-laid}
+use Rattle.endian.specs.Bytes.{wordBytes}
 use Rattle.machine.specs.declared.State.{State}
-use Rattle.image.specs.Image.{betweenOf, entryBytes, imageOf}
-use Rattle.image.specs.Layout.{imageSize, regsAt, sspAt, tlbAt}
-use Rattle.image.proofs.Entries.{entries-laid}
+use Rattle.image.specs.Image.{betweenOf, imageOf}
+use Rattle.layout.specs.Entries.{entryBytes}
+use Rattle.layout.specs.Layout.{imageSize, regsAt, sspAt, tlbAt}
+use Rattle.layout.specs.EntryLaws.{entries-laid}
 use Rattle.image.proofs.encoder.write_image.Statement.{statement}
 use Rattle.image.proofs.encoder.write_image.Tie as tie
 

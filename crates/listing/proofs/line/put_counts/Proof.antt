@@ -1,7 +1,7 @@
 -- `listing::line::put_counts` meets its contract.
 -- Assumes nothing.
 use borrow.Author.Needs.{needs}
-use Rattle.listing.proofs.Wrote.{then}
+use Rattle.text.specs.Wrote.{then}
 use Rattle.listing.proofs.line.put_counts.Statement.{statement}
 use Rattle.listing.proofs.line.put_counts.Tie as tie
 

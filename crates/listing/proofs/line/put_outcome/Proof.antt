@@ -1,7 +1,7 @@
 -- `listing::line::put_outcome` meets its contract.
 -- Assumes nothing.
 use borrow.Author.Needs.{needs}
-use Rattle.listing.proofs.Wrote.{then}
+use Rattle.text.specs.Wrote.{then}
 use Rattle.listing.proofs.line.put_outcome.Statement.{statement}
 use Rattle.listing.proofs.line.put_outcome.Tie as tie
 

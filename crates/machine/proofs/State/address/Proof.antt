@@ -7,7 +7,7 @@ use mir.Val.{ofZ, toZ}
 use borrow.Author.Needs.{needs}
 use Rattle.word.specs.Signed.{word}
 use Rattle.word.specs.Word.{plus}
-use Rattle.plan.specs.Need.{addressOf}
+use Rattle.transfer.specs.Need.{addressOf}
 use Rattle.machine.proofs.State.address.Statement.{statement}
 use Rattle.machine.proofs.State.address.Tie as tie
 

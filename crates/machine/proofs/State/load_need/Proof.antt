@@ -6,8 +6,8 @@ use mir.Syntax.{w16}
 use mir.Val.{ofZ, toZ}
 use borrow.Author.Needs.{needs}
 use Rattle.word.specs.Signed.{word}
-use Rattle.plan.specs.Need.{loadNeed}
-use Rattle.plan.specs.declared.Need.the-variants.{Value}
+use Rattle.transfer.specs.Need.{loadNeed}
+use Rattle.transfer.specs.declared.Need.the-variants.{Value}
 use Rattle.machine.proofs.State.load_need.Statement.{statement}
 use Rattle.machine.proofs.State.load_need.Tie as tie
 

@@ -1,7 +1,7 @@
 -- `machine::State::need` meets its contract.
 -- Assumes nothing.
 use borrow.Author.Needs.{needs}
-use Rattle.plan.specs.Need.{needOf}
+use Rattle.transfer.specs.Need.{needOf}
 use Rattle.machine.proofs.State.need.Statement.{statement}
 use Rattle.machine.proofs.State.need.Tie as tie
 

@@ -1,0 +1,47 @@
+-- Which images are good. Document 01, the table of refusals: "image field beyond its values: FLAG, pending, MMU, condition, cause, TLB zeros".
+-- Assumes nothing.
+use mathlib.Core.Bool.{Bool, cond, true, _&&_}
+use mathlib.Core.List.{List}
+use Prim.Native.Nat.{suc, zero, ℕ, _%_, _+_, _/_}
+use lib.Dec.{eqb, ltb}
+use lib.ListN.{getD, length}
+use Rattle.refusal.specs.Refusal.{refused}
+use Rattle.refusal.specs.declared.Cause.the-variants.{ImageField, ImageLength, MemoryLength}
+use Rattle.refusal.specs.declared.Validity.{Validity}
+use Rattle.refusal.specs.declared.Validity.the-variants.{Good}
+use Rattle.endian.specs.Bytes.{byteFrom, wordFrom}
+use Rattle.layout.specs.Layout.{causeAt, conditionAt, flagAt, imageSize, mmuAt, pendingAt, tlbAt}
+
+-- "FLAG is 0000 0000 EPI0 VCSZ"
+unfoldable pub flagGood : ℕ → Bool
+flagGood w = ltb w 256 && eqb (w / 16 % 2) 0
+
+-- "pending lines (word, bit n is interrupt n, 0-9)"
+unfoldable pub pendingGood : ℕ → Bool
+pendingGood w = ltb w 1024
+
+-- "two zeros", bits 14 and 13 of a TLB entry: bits 6 and 5 of its middle byte
+unfoldable pub zerosGood : ℕ → Bool
+zerosGood middle = eqb (middle / 32 % 4) 0
+
+-- the zeros of `n` entries from an offset on
+unfoldable pub allZeros : List ℕ → ℕ → ℕ → Bool
+allZeros b at zero = true
+allZeros b at (suc n) = zerosGood (getD b (at + 1) 0) && allZeros b (at + 3) n
+
+-- a good image: every field within its values
+unfoldable pub goodImage : List ℕ → Bool
+goodImage b =
+    flagGood (wordFrom b flagAt)
+    && (pendingGood (wordFrom b pendingAt)
+    && (ltb (byteFrom b mmuAt) 2
+    && (ltb (byteFrom b conditionAt) 3
+    && (ltb (byteFrom b causeAt) 4
+    && allZeros b tlbAt 8))))
+
+-- memory and image: refusals 1 to 3
+unfoldable pub machineValid : ℕ → List ℕ → Validity
+machineValid long image =
+    cond (eqb long 65536)
+    (cond (eqb (length image) imageSize) (cond (goodImage image) Good (refused ImageField 0)) (refused ImageLength 0))
+    (refused MemoryLength 0)

@@ -1,0 +1,88 @@
+// The tests of memory and image.
+ghost use mathlib.Core.Path.{_≡_};
+ghost use lib.ListN.{length};
+ghost use Rattle.layout.specs.Layout.{imageSize, tlbAt};
+ghost use Rattle.layout.specs.Valid as def;
+ghost use Rattle.refusal.specs.Refusal as said;
+use crate::CAUSE;
+use crate::CONDITION;
+use crate::ENTRIES;
+use crate::ENTRY;
+use crate::FLAG;
+use crate::IMAGE;
+use crate::MIDDLE;
+use crate::MMU;
+use crate::PENDING;
+use crate::TLB;
+use endian::word_from;
+use refusal::Cause;
+use refusal::Refusal;
+use refusal::Validity;
+
+// Bytes of memory.
+const MEMORY: usize = 65536;
+
+// FLAG within its values.
+pub fn flag_good(w: u16) -> bool
+    ensures { λ r. ⌜ r ≡ def.flagGood w ⌝ }
+{
+    (w < 256) & (w / 16 % 2 == 0)
+}
+
+// Pending lines within their values.
+pub fn pending_good(w: u16) -> bool
+    ensures { λ r. ⌜ r ≡ def.pendingGood w ⌝ }
+{
+    w < 1024
+}
+
+// Bits 14 and 13 of the TLB entry with this middle byte.
+pub fn zeros_good(middle: u8) -> bool
+    ensures { λ r. ⌜ r ≡ def.zerosGood middle ⌝ }
+{
+    middle / 32 % 4 == 0
+}
+
+fn all_zeros(image: &[u8]) -> bool
+    requires { ⌜ length (now image) ≡ imageSize ⌝ }
+    ensures { λ r. ⌜ r ≡ def.allZeros (now (image .entry)) tlbAt 8 ⌝ }
+{
+    let mut good = true;
+    for k in 0..ENTRIES {
+        good = good & zeros_good(image[TLB + ENTRY * k + MIDDLE]);
+    }
+    good
+}
+
+fn good_image(image: &[u8]) -> bool
+    requires { ⌜ length (now image) ≡ imageSize ⌝ }
+    ensures { λ r. ⌜ r ≡ def.goodImage (now (image .entry)) ⌝ }
+{
+    flag_good(word_from(image, FLAG))
+        & (pending_good(word_from(image, PENDING))
+            & ((image[MMU] < 2)
+                & ((image[CONDITION] < 3) & ((image[CAUSE] < 4) & all_zeros(image)))))
+}
+
+fn refused(cause: Cause) -> Validity
+    ensures { λ r. ⌜ r ≡ said.refused cause 0 ⌝ }
+{
+    Validity::Refused(Refusal { cause, place: 0 })
+}
+
+// Refusals 1 to 3.
+pub fn validate(memory: usize, image: &[u8]) -> Validity
+    ensures { λ r. ⌜ r ≡ def.machineValid memory (now (image .entry)) ⌝ }
+{
+    if memory != MEMORY {
+        return refused(Cause::MemoryLength);
+    }
+    if image.len() != IMAGE {
+        return refused(Cause::ImageLength);
+    }
+    if good_image(image) {
+        Validity::Good
+    } else {
+        refused(Cause::ImageField)
+    }
+}

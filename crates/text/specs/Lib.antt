@@ -1,0 +1,4 @@
+pub mod Laws
+pub mod Text
+pub mod Written
+pub mod Wrote

@@ -1,0 +1,38 @@
+-- `transfer::data::read_byte` meets its contract.
+-- Assumes nothing.
+use borrow.Author.Needs.{needs}
+use Rattle.transfer.proofs.data.read_byte.Statement.{statement}
+use Rattle.transfer.proofs.data.read_byte.Tie as tie
+
+enum-known-access : tie.Need-enum-known-access
+enum-known-access c = search needs
+
+byte-at-requires : tie.Need-byte-at-requires
+byte-at-requires c κs = search needs
+
+transferred-requires : tie.Need-transferred-requires
+transferred-requires c κs = search needs
+
+enum-known-access-2 : tie.Need-enum-known-access-2
+enum-known-access-2 c = search needs
+
+transferred-requires-2 : tie.Need-transferred-requires-2
+transferred-requires-2 c κs = search needs
+
+returns : tie.Need-returns
+returns c = rw (c .transferred .ensures, c .before .byte-at .ensures, c .before .before .before .access .given .1)
+
+returns-2 : tie.Need-returns-2
+returns-2 c = rw (c .transferred2 .ensures, c .before .before .access2 .given .1)
+
+pub read-byte-spec : {M : Type 1} → statement M
+read-byte-spec =
+    tie.close
+    (tie.spec
+    enum-known-access
+    byte-at-requires
+    transferred-requires
+    enum-known-access-2
+    transferred-requires-2
+    returns
+    returns-2)
