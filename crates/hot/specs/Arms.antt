@@ -1,7 +1,7 @@
 -- The arms, each by its law.
 -- Assumes nothing.
 use mathlib.Core.List.{List}
-use mathlib.Core.Path.{_∙_, _≡_}
+use mathlib.Core.Path.{ap, refl, _∙_, _≡_}
 use Prim.Native.Nat.{ℕ, _+_, _/_, _<_}
 use native.Mathlib.Omega.{arith}
 use lib.ListN.{getD, length, length-set, set}
@@ -10,13 +10,12 @@ use Rattle.decode.specs.Decode.{rdField}
 use Rattle.decode.specs.Instructions.{addStates, eight}
 use Rattle.decode.specs.Opcode.{statesAt}
 use Rattle.decode.specs.declared.Flow.the-variants as flow
-use Rattle.machine.specs.Execute.{aluOf}
+use Rattle.plan.specs.Result.{aluOf}
 use Rattle.alu.specs.Alu.{places, subOf}
 use Rattle.alu.specs.declared.Alu.{Alu}
-use Rattle.hot.specs.Operations.{compare-does, divide-does, load-does, next-does, shift-does}
+use Rattle.hot.specs.Fields.{modeOf}
 use Rattle.hot.specs.Rows.{Computes, addCost, below-eight, loadCost}
-use Rattle.hot.specs.Sources.{modeOf}
-use Rattle.hot.specs.Tells.{Divided, Operates, act, by-zero, quotient, stay}
+use Rattle.hot.specs.Tells.{Divided, Operates, act, by-zero, compare, compute, divide, flagged, load, quotient, shift, stay, to}
 use Rattle.hot.specs.declared.Hot.{Hot}
 use Rattle.hot.specs.declared.source.Source.{Source}
 
@@ -50,42 +49,37 @@ module _ (rs : List ℕ) (size : length rs ≡ 16) (h : Hot) (w : ℕ) (x : Sour
 
   pub load-operates :
       w / 2048 ≡ LD → (n : ℕ) → n ≡ loadCost (modeOf w) → 0 < n → n < 65536
-      → Operates rs h w x (set rs (rdField w) (x .value)) (record { pc = x .next; v = h .v; c = h .c; s = h .s; z = h .z; cost = n })
-  load-operates e n q l k =
-      act l k (sized (x .value)) v (λ b m fine s.
-      rw q (load-does b rs size h m w low (modeOf w) mode-below fine (x .value) (x .next) s (omega arith)))
+      → Operates rs h w x (set rs (rdField w) (x .value)) (to h (x .next) n)
+  load-operates e n q l k = act l k size (sized (x .value)) low v (load e refl (ap (to h (x .next)) q))
 
   module _ (r : Alu) where
-    abbrev after : ℕ → Hot
-    after n = record { pc = x .next; v = r .v; c = r .c; s = r .s; z = r .z; cost = n }
-
-    pub compare-operates : w / 2048 ≡ CMP → r ≡ subOf (getD rs (rdField w) 0) (x .value) → Operates rs h w x rs (after (x .cost))
+    pub compare-operates : w / 2048 ≡ CMP → r ≡ subOf (getD rs (rdField w) 0) (x .value) → Operates rs h w x rs (flagged r (x .next) (x .cost))
     compare-operates e q =
         let n : x .cost ≡ addCost (modeOf w) + 0 = omega (arith, cost) in
-        act (omega (arith, cost, cost-above (modeOf w) mode-below)) (omega (arith, cost, cost-below (modeOf w) mode-below)) size v (λ b m fine s.
-        rw n (compare-does b rs size h m w low (modeOf w) mode-below fine (x .value) (x .next) s (omega arith) r q))
+        act (omega (arith, cost, cost-above (modeOf w) mode-below)) (omega (arith, cost, cost-below (modeOf w) mode-below)) size size low v
+        (compare r e q refl (ap (flagged r (x .next)) n))
 
     module _ {code extra : ℕ} (q : r ≡ aluOf code (getD rs (rdField w) 0) (x .value)) (not-cmp : code ≡ CMP → ⊥) (e : w / 2048 ≡ code) (few : extra < 100) (n : ℕ) where
       abbrev Result : Type 0
-      Result = Operates rs h w x (set rs (rdField w) (r .value)) (after n)
+      Result = Operates rs h w x (set rs (rdField w) (r .value)) (flagged r (x .next) n)
 
       pub next-operates : Computes code flow.Next extra → n ≡ x .cost + extra → Result
       next-operates c k =
           let t : n ≡ addCost (modeOf w) + extra = omega (arith, cost) in
-          act (omega (arith, cost-above (modeOf w) mode-below)) (omega (arith, cost-below (modeOf w) mode-below)) (sized (r .value)) v (λ b m fine s.
-          rw t (next-does b rs size h m w low (modeOf w) mode-below fine (x .value) (x .next) s r q not-cmp (omega arith) c))
+          act (omega (arith, cost-above (modeOf w) mode-below)) (omega (arith, cost-below (modeOf w) mode-below)) size (sized (r .value)) low v
+          (compute r c not-cmp e q refl (ap (flagged r (x .next)) t))
 
       pub divide-operates : Computes code flow.Divide extra → (x .value ≡ 0 → ⊥) → n ≡ x .cost + extra → Result
       divide-operates c z k =
           let t : n ≡ addCost (modeOf w) + extra = omega (arith, cost) in
-          act (omega (arith, cost-above (modeOf w) mode-below)) (omega (arith, cost-below (modeOf w) mode-below)) (sized (r .value)) v (λ b m fine s.
-          rw t (divide-does b rs size h m w low (modeOf w) mode-below fine (x .value) (x .next) s r q not-cmp (omega arith) c z))
+          act (omega (arith, cost-above (modeOf w) mode-below)) (omega (arith, cost-below (modeOf w) mode-below)) size (sized (r .value)) low v
+          (divide r c not-cmp e z q refl (ap (flagged r (x .next)) t))
 
       pub shift-operates : Computes code flow.Shift extra → n ≡ x .cost + extra + places (x .value) → Result
       shift-operates c k =
           let t : n ≡ addCost (modeOf w) + extra + places (x .value) = omega (arith, cost) in
-          act (omega (arith, cost-above (modeOf w) mode-below)) (omega (arith, cost-below (modeOf w) mode-below)) (sized (r .value)) v (λ b m fine s.
-          rw t (shift-does b rs size h m w low (modeOf w) mode-below fine (x .value) (x .next) s r q not-cmp (omega arith) c))
+          act (omega (arith, cost-above (modeOf w) mode-below)) (omega (arith, cost-below (modeOf w) mode-below)) size (sized (r .value)) low v
+          (shift r c not-cmp e q refl (ap (flagged r (x .next)) t))
 
       pub divided-operates :
           Computes code flow.Divide extra → n ≡ x .cost + extra → {rs′ : List ℕ} {y : Hot}

@@ -1,10 +1,6 @@
 pub mod Arms
-pub mod Fetch
 pub mod Fields
-pub mod Hot
 pub mod Moves
-pub mod Operands
-pub mod Operations
 pub mod Rows
 pub mod Sources
 pub mod Tells

@@ -4,7 +4,7 @@ ghost use Prim.Native.Nat.{_<_, _%_};
 ghost use lib.ListN.{length, set};
 ghost use Rattle.status.specs.Flag.{takenOn};
 ghost use Rattle.hot.specs.Rows.{addCost, loadCost};
-ghost use Rattle.hot.specs.Sources.{modeOf};
+ghost use Rattle.hot.specs.Fields.{modeOf};
 ghost use Rattle.hot.specs.Tells.{Divided, Operates};
 use crate::Hot;
 use crate::register::USP;

@@ -6,18 +6,14 @@ use mathlib.Core.Path.{_≡_}
 use Prim.Native.Nat.{ℕ}
 use lib.Dec.{leb}
 use borrow.Author.Tests.{ne-eqb}
-use Rattle.decode.specs.Code.{ADD, ADDS, AND, CALL, CMP, DIV, HALT, IN, LD, LDFLAG, MOD, MUL, OR, OUT, POP, PUSH, RET, RETI, SHRA, SHRL, SUB, XOR}
-use Rattle.alu.specs.Alu.{shlOf}
+use Rattle.decode.specs.Code.{ADD, CALL, CMP, HALT, IN, LD, LDFLAG, OUT, POP, PUSH, RET, RETI, SHRL}
 use Rattle.alu.specs.declared.Alu.{Alu}
-use Rattle.machine.specs.Execute.{aluOf, bodyOf, withResult}
+use Rattle.machine.specs.Execute.{bodyOf, withResult}
+use Rattle.plan.specs.Beside.{Beside}
+use Rattle.plan.specs.Result.{aluOf}
 use Rattle.machine.specs.Register.{withReg}
 use Rattle.plan.specs.declared.Operation.{Operation}
 use Rattle.machine.specs.declared.State.{State}
-
--- a number that is none of some others, the last of them first
-abbrev Beside : List ℕ → ℕ → Type 0
-Beside [] n = Unit {0}
-Beside (k ∷ ks) n = Beside ks n × (n ≡ k → ⊥)
 
 -- the instructions that have a row of their own in what an instruction does to the state
 abbrev singles : List ℕ
@@ -32,14 +28,3 @@ unfolding bodyOf
 body-beside st op (((((((((((_, ld), cmp), flag), call), in′), out), push), pop), ret), reti), halt) =
     rw (ne-eqb _ _ ld, ne-eqb _ _ cmp, ne-eqb _ _ flag, ne-eqb _ _ call, ne-eqb _ _ in′, ne-eqb _ _ out)
     (rw (ne-eqb _ _ push, ne-eqb _ _ pop, ne-eqb _ _ ret, ne-eqb _ _ reti, ne-eqb _ _ halt))
-
--- the instructions that have a row of their own in the results
-abbrev results : List ℕ
-results = SHRL ∷ SHRA ∷ MOD ∷ DIV ∷ MUL ∷ ADDS ∷ XOR ∷ OR ∷ AND ∷ SUB ∷ ADD ∷ []
-
--- any other is SHLA or SHLL
-pub result-beside : (code a b : ℕ) → Beside results code → aluOf code a b ≡ shlOf a b
-unfolding aluOf
-result-beside code a b (((((((((((_, add), sub), and), or), xor), adds), mul), div), modulo), shra), shrl) =
-    rw (ne-eqb _ _ add, ne-eqb _ _ sub, ne-eqb _ _ and, ne-eqb _ _ or, ne-eqb _ _ xor, ne-eqb _ _ adds)
-    (rw (ne-eqb _ _ mul, ne-eqb _ _ div, ne-eqb _ _ modulo, ne-eqb _ _ shra, ne-eqb _ _ shrl))

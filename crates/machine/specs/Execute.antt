@@ -1,10 +1,10 @@
 -- What an instruction does to the state, all of its tests passed. Document 01, "Results and flags".
 -- Assumes nothing.
 use mathlib.Core.Bool.{cond, _&&_}
-use Prim.Native.Nat.{ℕ}
 use lib.Dec.{eqb, leb}
-use Rattle.decode.specs.Code.{ADD, ADDS, AND, CALL, CMP, DIV, HALT, IN, LD, LDFLAG, MOD, MUL, OR, OUT, POP, PUSH, RET, RETI, SHRA, SHRL, SUB, XOR}
-use Rattle.alu.specs.Alu.{addOf, addsOf, andOf, divOf, modOf, mulOf, orOf, shlOf, shraOf, shrlOf, subOf, xorOf}
+use Rattle.decode.specs.Code.{ADD, CALL, CMP, HALT, IN, LD, LDFLAG, OUT, POP, PUSH, RET, RETI, SHRL}
+use Rattle.alu.specs.Alu.{subOf}
+use Rattle.plan.specs.Result.{aluOf}
 use Rattle.word.specs.Word.{minus, plus}
 use Rattle.alu.specs.declared.Alu.{Alu}
 use Rattle.machine.specs.Flag.{withFlag}
@@ -16,22 +16,6 @@ use Rattle.machine.specs.declared.Event.{Event}
 use Rattle.machine.specs.declared.Event.the-variants as event
 use Rattle.plan.specs.declared.Operation.{Operation}
 use Rattle.machine.specs.declared.State.{State}
-
--- the result and the flags of an instruction from ADD to SHRL but CMP, which has those of SUB
-unfoldable pub aluOf : ℕ → ℕ → ℕ → Alu
-aluOf code a b =
-    cond (eqb code ADD) (addOf a b)
-    (cond (eqb code SUB) (subOf a b)
-    (cond (eqb code AND) (andOf a b)
-    (cond (eqb code OR) (orOf a b)
-    (cond (eqb code XOR) (xorOf a b)
-    (cond (eqb code ADDS) (addsOf a b)
-    (cond (eqb code MUL) (mulOf a b)
-    (cond (eqb code DIV) (divOf a b)
-    (cond (eqb code MOD) (modOf a b)
-    (cond (eqb code SHRA) (shraOf a b)
-    (cond (eqb code SHRL) (shrlOf a b)
-    (shlOf a b)))))))))))
 
 -- V, C, S and Z of a result
 abbrev pub withResult : State → Alu → State

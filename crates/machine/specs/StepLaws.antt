@@ -12,7 +12,8 @@ use Rattle.word.specs.Cases.{either}
 use Rattle.word.specs.Word.{minus, plus}
 use Rattle.machine.specs.Answers.{statesOf}
 use Rattle.machine.specs.Enter.{Outcome, enterOf, entered, lost}
-use Rattle.machine.specs.Execute.{aluOf, bodyOf, withResult}
+use Rattle.plan.specs.Result.{aluOf}
+use Rattle.machine.specs.Execute.{bodyOf, withResult}
 use Rattle.machine.specs.Flag.{withFlag}
 use Rattle.machine.specs.Ports.{afterIn, afterOut, portValue}
 use Rattle.machine.specs.Register.{spOf, withReg, withSp}

@@ -7,31 +7,10 @@ ghost use Rattle.word.specs.Word as words;
 use crate::Condition;
 use crate::Event;
 use crate::State;
-use alu::Alu;
 use decode::code::*;
 use plan::Operation;
 use word::minus;
 use word::plus;
-
-// The result and the flags of an instruction from ADD to SHRL but CMP.
-fn alu(code: u8, a: u16, b: u16) -> Alu
-    ensures { λ r. ⌜ r ≡ def.aluOf code a b ⌝ }
-{
-    match code {
-        ADD => alu::add(a, b),
-        SUB => alu::sub(a, b),
-        AND => alu::and(a, b),
-        OR => alu::or(a, b),
-        XOR => alu::xor(a, b),
-        ADDS => alu::adds(a, b),
-        MUL => alu::mul(a, b),
-        DIV => alu::div(a, b),
-        MOD => alu::modulo(a, b),
-        SHRA => alu::shra(a, b),
-        SHRL => alu::shrl(a, b),
-        _ => alu::shl(a, b),
-    }
-}
 
 // What an instruction did.
 pub(crate) fn event_of(op: Operation) -> Event
@@ -97,7 +76,7 @@ impl State {
             RETI => self.resume(op.source),
             HALT => self.set_condition(Condition::Halted),
             ADD..=SHRL => {
-                let r = alu(code, op.held, op.source);
+                let r = plan::result(code, op.held, op.source);
                 self.set_flags(r).set_register(op.rd, r.value)
             }
             _ => self,

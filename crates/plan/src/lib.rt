@@ -1,8 +1,10 @@
-// What a step is going to do: the last tests of an instruction, the plan.
+// What a step is going to do: the last tests of an instruction, its result, the plan.
+mod results;
 mod tests;
 
 use memory::Store;
 use mmu::Fault;
+pub use results::result;
 pub use tests::end;
 
 // The numbers of the entries that are no access's and no interrupt's.

@@ -8,7 +8,8 @@ use lib.Dec.{eqb, ltb}
 use lib.ListN.{getD, set}
 use Rattle.decode.specs.Code.{HALT}
 use Rattle.machine.specs.Enter.{Outcome, enterOf, pushed, vectorOf}
-use Rattle.machine.specs.Execute.{afterOperation, aluOf, bodyOf, eventOf}
+use Rattle.machine.specs.Execute.{afterOperation, bodyOf, eventOf}
+use Rattle.plan.specs.Result.{aluOf}
 use Rattle.machine.specs.Fault.{noted}
 use Rattle.machine.specs.Flag.{flagOf}
 use Rattle.machine.specs.Kept.{plan-keeps}

@@ -15,9 +15,10 @@ use Rattle.mmu.specs.declared.Right.the-variants.{Execute}
 use Rattle.pages.specs.Accesses.{Reads}
 use Rattle.pages.specs.Maps.{access-granted}
 use Rattle.pages.specs.declared.Width.the-variants.{Word}
-use Rattle.hot.specs.Fetch.{MapOf, begins, did}
-use Rattle.hot.specs.Hot.{hotState}
-use Rattle.hot.specs.Tells.{Tells, carried, stopped}
+use Rattle.refinement.specs.Fetch.{MapOf, begins, did}
+use Rattle.refinement.specs.Hot.{hotState}
+use Rattle.hot.specs.Tells.{Tells, stopped}
+use Rattle.refinement.specs.Carried.{carried}
 use Rattle.hot.specs.declared.Hot.{Hot}
 
 -- `steps` instructions in `states` states

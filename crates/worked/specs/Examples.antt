@@ -10,7 +10,8 @@ use Rattle.decode.specs.Opcode.{Opcode, costOf, inModes, inRows, known, modeBit
 use Rattle.image.specs.Decode.{conditionFrom}
 use Rattle.machine.specs.Answers.{statesOf}
 use Rattle.machine.specs.Enter.{enterOf, pushed}
-use Rattle.machine.specs.Execute.{afterOperation, aluOf, bodyOf, eventOf}
+use Rattle.machine.specs.Execute.{afterOperation, bodyOf, eventOf}
+use Rattle.plan.specs.Result.{aluOf}
 use Rattle.status.specs.Flag.{flagWord}
 use Rattle.transfer.specs.Need.{addressOf, loadNeed, needOf, storeNeed, valueStored}
 use Rattle.machine.specs.Plan.{planFetch, planFirst, planOf, planOperand, planSecond}

@@ -3,9 +3,9 @@
 use mathlib.Core.Path.{refl, _∙_}
 use native.Mathlib.Omega.{arith}
 use borrow.Author.Needs.{needs}
-use Rattle.hot.specs.Moves.{byte-indirect, direct, framed, indexed, indirect, store-tells}
+use Rattle.hot.specs.Tells.{byte-indirect, direct, framed, indexed, indirect, stop}
+use Rattle.hot.specs.Moves.{store-tells}
 use Rattle.hot.specs.Sources.{byte-named, direct-named, frame-named, indexed-named, indirect-named}
-use Rattle.hot.specs.Tells.{stop}
 use Rattle.hot.proofs.Hot.store.Statement.{statement}
 use Rattle.hot.proofs.Hot.store.Tie as tie
 

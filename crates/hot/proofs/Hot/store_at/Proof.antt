@@ -3,7 +3,7 @@
 use mathlib.Core.Path.{refl}
 use borrow.Author.Needs.{needs}
 use Rattle.pages.specs.Accesses.{not-wrote, wrote}
-use Rattle.hot.specs.Moves.{goes, stays}
+use Rattle.hot.specs.Tells.{goes, stays}
 use Rattle.hot.proofs.Hot.store_at.Statement.{statement}
 use Rattle.hot.proofs.Hot.store_at.Tie as tie
 

@@ -1,7 +1,7 @@
 -- `hot::Hot::turn` meets its contract.
 -- Assumes nothing.
 use borrow.Author.Needs.{needs}
-use Rattle.hot.specs.Tells.{operated}
+use Rattle.hot.specs.Moves.{operate-tells}
 use Rattle.hot.proofs.Hot.turn.Statement.{statement}
 use Rattle.hot.proofs.Hot.turn.Tie as tie
 
@@ -72,7 +72,7 @@ same-length-7 : tie.Need-same-length-7
 same-length-7 c = search needs
 
 returns-7 : tie.Need-returns-7
-returns-7 c = operated (c .operate .ensures) (c .before .source-of .ensures)
+returns-7 c = operate-tells (c .operate .ensures) (c .before .source-of .ensures)
 
 pub turn-spec : {M : Type 1} → statement M
 turn-spec =

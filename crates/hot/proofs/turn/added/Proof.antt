@@ -2,7 +2,7 @@
 -- Assumes nothing.
 use mathlib.Core.Path.{refl}
 use borrow.Author.Needs.{needs}
-use Rattle.hot.specs.Moves.{none, one}
+use Rattle.hot.specs.Tells.{none, one}
 use Rattle.hot.proofs.turn.added.Statement.{statement}
 use Rattle.hot.proofs.turn.added.Tie as tie
 

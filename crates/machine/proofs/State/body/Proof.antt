@@ -77,8 +77,8 @@ resume-requires c κs = search needs
 set-condition-requires : tie.Need-set-condition-requires
 set-condition-requires c κs = search needs
 
-alu-requires : tie.Need-alu-requires
-alu-requires c κs = search needs
+result-requires : tie.Need-result-requires
+result-requires c κs = search needs
 
 set-flags-requires-2 : tie.Need-set-flags-requires-2
 set-flags-requires-2 c κs = search needs
@@ -140,7 +140,7 @@ returns-12 : tie.Need-returns-12
 returns-12 c =
     let given = c .before .before .before .before .before .before .args in
     let between = within ADD SHRL _ (c .before .before .before .before .if1 .left) (c .before .before .before .if2 .taken) in
-    rw (body-beside (given .self) (given .op) (c .before .before .before .before .before .match .rest), between, ← c .before .before .alu .ensures)
+    rw (body-beside (given .self) (given .op) (c .before .before .before .before .before .match .rest), between, ← c .before .before .result .ensures)
     (rw (c .set-register5 .ensures, c .before .set-flags2 .ensures))
 
 returns-13 : tie.Need-returns-13
@@ -180,7 +180,7 @@ body-spec =
     set-sp-requires-4
     resume-requires
     set-condition-requires
-    alu-requires
+    result-requires
     set-flags-requires-2
     set-register-requires-5
     returns

@@ -1,7 +1,7 @@
 -- `runner::ahead::spread` meets its contract.
 -- Assumes nothing.
 use borrow.Author.Needs.{needs}
-use Rattle.hot.specs.Hot.{spread-out}
+use Rattle.refinement.specs.Hot.{spread-out}
 use Rattle.runner.proofs.ahead.spread.Statement.{statement}
 use Rattle.runner.proofs.ahead.spread.Tie as tie
 

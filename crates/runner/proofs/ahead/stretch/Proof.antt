@@ -1,11 +1,11 @@
 -- `runner::ahead::stretch` meets its contract.
 -- Assumes nothing.
 use mathlib.Core.Logic.{⊎-elim}
-use mathlib.Core.Path.{_∙_, _≡_}
+use mathlib.Core.Path.{_≡_}
 use Prim.Native.Nat.{_*_, _≤_}
 use borrow.Author.Needs.{needs}
 use lib.ListN.{length}
-use Rattle.hot.specs.Hot.{hotState}
+use Rattle.refinement.specs.Hot.{hotState}
 use Rattle.runner.specs.Goes.{Goes}
 use Rattle.runner.proofs.ahead.stretch.Statement.{statement}
 use Rattle.runner.proofs.ahead.stretch.Tie as tie

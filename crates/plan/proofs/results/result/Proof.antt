@@ -1,11 +1,11 @@
--- `machine::execution::alu` meets its contract.
+-- `plan::results::result` meets its contract.
 -- Assumes nothing.
 use mathlib.Core.Path.{sym, _∙_}
 use borrow.Author.Needs.{needs}
-use Rattle.machine.specs.Execute.{aluOf}
-use Rattle.machine.proofs.Codes.{result-beside}
-use Rattle.machine.proofs.execution.alu.Statement.{statement}
-use Rattle.machine.proofs.execution.alu.Tie as tie
+use Rattle.plan.specs.Result.{aluOf}
+use Rattle.plan.specs.Beside.{result-beside}
+use Rattle.plan.proofs.results.result.Statement.{statement}
+use Rattle.plan.proofs.results.result.Tie as tie
 
 add-requires : tie.Need-add-requires
 add-requires c κs = search needs
@@ -90,8 +90,8 @@ returns-11 c = rw (c .before .match .keys11) (c .shrl .ensures)
 returns-12 : tie.Need-returns-12
 returns-12 c = c .shl .ensures ∙ sym (result-beside _ _ _ (c .before .match .rest))
 
-pub alu-spec : {M : Type 1} → statement M
-alu-spec =
+pub result-spec : {M : Type 1} → statement M
+result-spec =
     tie.close
     (tie.spec
     add-requires

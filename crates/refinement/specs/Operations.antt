@@ -20,7 +20,8 @@ use Rattle.decode.specs.declared.Instruction.{Instruction}
 use Rattle.decode.specs.declared.Operand.{Operand}
 use Rattle.decode.specs.declared.Operand.the-variants as operand
 use Rattle.machine.specs.Enter.{Outcome}
-use Rattle.machine.specs.Execute.{afterOperation, aluOf, bodyOf, eventOf, withResult}
+use Rattle.machine.specs.Execute.{afterOperation, bodyOf, eventOf, withResult}
+use Rattle.plan.specs.Result.{aluOf}
 use Rattle.machine.specs.Flag.{flagOf}
 use Rattle.transfer.specs.Need.{addressOf, needOf, valueStored}
 use Rattle.machine.specs.Plan.{planFirst, planOperand, planned, taken, translates}
@@ -48,11 +49,12 @@ use Rattle.jump.specs.Jump.{conditionOf}
 use Rattle.jump.specs.Laws.{undefined-thirteen}
 use Rattle.word.specs.Word.{minus, plus, upper}
 use Rattle.alu.specs.declared.Alu.{Alu}
-use Rattle.hot.specs.Fetch.{Grants, accessed, carriedOut, defined, did, one-word, readied}
-use Rattle.hot.specs.Hot.{hot, hotState, reg-hot, sp-hot, sp-with-hot, with-hot}
-use Rattle.hot.specs.Operands.{Addressed, Reached, Sourced}
-use Rattle.hot.specs.Rows.{Computes, Opens, add, addCost, adds, and, cmp, div, loadCost, modulo, mul, opens, opens-compute, opens-load, or, shla, shll, shra, shrl, sub, xor}
+use Rattle.refinement.specs.Fetch.{Grants, accessed, carriedOut, defined, did, one-word, readied}
+use Rattle.refinement.specs.Hot.{hot, hotState, reg-hot, sp-hot, sp-with-hot, with-hot}
+use Rattle.refinement.specs.Operands.{Addressed, Reached, Sourced}
+use Rattle.refinement.specs.Opens.{Opens, opens, opens-compute, opens-load}
+use Rattle.hot.specs.Rows.{Computes, add, addCost, adds, and, cmp, div, loadCost, modulo, mul, or, shla, shll, shra, shrl, sub, xor}
 use Rattle.hot.specs.declared.Hot.{Hot}
 
 -- the first word w leads with its operand to the instruction
 module _ (st : State) (m : List ℕ) (w : ℕ) {byte code mode cost : ℕ} {field : RdUse} {access : DataAccess} {flow : Flow} where

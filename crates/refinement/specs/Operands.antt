@@ -24,7 +24,7 @@ use Rattle.pages.specs.declared.Width.{Width}
 use Rattle.pages.specs.declared.Width.the-variants.{Byte, Word}
 use Rattle.word.specs.Signed.{signed4, word}
 use Rattle.word.specs.Word.{plus}
-use Rattle.hot.specs.Fetch.{Grants, instruction, one-word, two-words}
+use Rattle.refinement.specs.Fetch.{Grants, instruction, one-word, two-words}
 
 -- a second word that is fetched
 pub record Second (st : State) (m : List ℕ) (x : ℕ) : Type 0 where

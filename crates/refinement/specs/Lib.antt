@@ -1,0 +1,7 @@
+pub mod Carried
+pub mod Fetch
+pub mod Hot
+pub mod Opens
+pub mod Operands
+pub mod Operations
+pub mod Shorts

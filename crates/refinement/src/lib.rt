@@ -1,0 +1,1 @@
+// A plain instruction of `hot` is a step of the machine: a theorem about the definitions of `machine`, no functions.
