@@ -9,6 +9,7 @@ ghost use Rattle.card.specs.Effect.{executeOf};
 ghost use Rattle.image.specs.Decode.{stateFrom};
 ghost use Rattle.image.specs.Image.{imageOf};
 ghost use Rattle.layout.specs.Layout.{imageSize};
+ghost use Rattle.refusal.specs.Call.{called};
 ghost use Rattle.report.specs.Layout.{reportSize};
 use crate::effects::execute;
 use crate::validity::validate;
@@ -28,10 +29,7 @@ fn execute_valid(memory: &mut [u8], image: &mut [u8], card: &[u8], report: &mut 
 
 // A card: the answer of `tac_card`, the reports at the front of `report`, the bytes behind them kept.
 pub fn perform(memory: &mut [u8], image: &mut [u8], card: &[u8], report: &mut [u8]) -> u64
-    ensures answer { λ r. ⌜ r ≡ (def.cardCall (now (memory .entry)) (now (image .entry)) (now (card .entry)) (now (report .entry))) .answer ⌝ }
-    ensures memory { λ _. ⌜ now (memory .exit) ≡ (def.cardCall (now (memory .entry)) (now (image .entry)) (now (card .entry)) (now (report .entry))) .memory ⌝ }
-    ensures image { λ _. ⌜ now (image .exit) ≡ (def.cardCall (now (memory .entry)) (now (image .entry)) (now (card .entry)) (now (report .entry))) .image ⌝ }
-    ensures report { λ _. ⌜ now (report .exit) ≡ (def.cardCall (now (memory .entry)) (now (image .entry)) (now (card .entry)) (now (report .entry))) .report ⌝ }
+    ensures { λ r. ⌜ called r (now (memory .exit)) (now (image .exit)) (now (report .exit)) ≡ def.cardCall (now (memory .entry)) (now (image .entry)) (now (card .entry)) (now (report .entry)) ⌝ }
 {
     let checked = validate(memory.len(), image, card, report.len());
     let validity = checked.validity;

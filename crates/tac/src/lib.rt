@@ -9,6 +9,7 @@ ghost use Rattle.image.specs.Image.{imageOf};
 ghost use Rattle.layout.specs.Layout.{imageSize};
 ghost use Rattle.machine.specs.Flag.{flagOf};
 ghost use Rattle.machine.specs.Run.{runOf, stoppedEnding};
+ghost use Rattle.refusal.specs.Call.{called};
 ghost use Rattle.report.specs.Layout.{reportSize};
 ghost use Rattle.report.specs.Report.{reportOf, reportOfRan};
 ghost use Rattle.tac.specs.Call as def;
@@ -87,10 +88,7 @@ pub extern "C" fn tac_run(
     allowance: u16,
     report: &mut [u8],
 ) -> u64
-    ensures answer { λ r. ⌜ r ≡ (def.runCall (now (memory .entry)) (now (image .entry)) allowance (now (report .entry))) .answer ⌝ }
-    ensures memory { λ _. ⌜ now (memory .exit) ≡ (def.runCall (now (memory .entry)) (now (image .entry)) allowance (now (report .entry))) .memory ⌝ }
-    ensures image { λ _. ⌜ now (image .exit) ≡ (def.runCall (now (memory .entry)) (now (image .entry)) allowance (now (report .entry))) .image ⌝ }
-    ensures report { λ _. ⌜ now (report .exit) ≡ (def.runCall (now (memory .entry)) (now (image .entry)) allowance (now (report .entry))) .report ⌝ }
+    ensures { λ r. ⌜ called r (now (memory .exit)) (now (image .exit)) (now (report .exit)) ≡ def.runCall (now (memory .entry)) (now (image .entry)) allowance (now (report .entry)) ⌝ }
 {
     match validate(memory.len(), image, report.len()) {
         Validity::Refused(refusal) => refusal::answer_of(refusal),
@@ -108,20 +106,14 @@ pub extern "C" fn tac_card(
     card: &[u8],
     report: &mut [u8],
 ) -> u64
-    ensures answer { λ r. ⌜ r ≡ (cardCall (now (memory .entry)) (now (image .entry)) (now (card .entry)) (now (report .entry))) .answer ⌝ }
-    ensures memory { λ _. ⌜ now (memory .exit) ≡ (cardCall (now (memory .entry)) (now (image .entry)) (now (card .entry)) (now (report .entry))) .memory ⌝ }
-    ensures image { λ _. ⌜ now (image .exit) ≡ (cardCall (now (memory .entry)) (now (image .entry)) (now (card .entry)) (now (report .entry))) .image ⌝ }
-    ensures report { λ _. ⌜ now (report .exit) ≡ (cardCall (now (memory .entry)) (now (image .entry)) (now (card .entry)) (now (report .entry))) .report ⌝ }
+    ensures { λ r. ⌜ called r (now (memory .exit)) (now (image .exit)) (now (report .exit)) ≡ cardCall (now (memory .entry)) (now (image .entry)) (now (card .entry)) (now (report .entry)) ⌝ }
 {
     card::perform(memory, image, card, report)
 }
 
 #[no_mangle]
 pub extern "C" fn tac_view(memory: &[u8], image: &[u8], report: &mut [u8]) -> u64
-    ensures answer { λ r. ⌜ r ≡ (def.viewCall (now (memory .entry)) (now (image .entry)) (now (report .entry))) .answer ⌝ }
-    ensures memory { λ _. ⌜ now (memory .exit) ≡ (def.viewCall (now (memory .entry)) (now (image .entry)) (now (report .entry))) .memory ⌝ }
-    ensures image { λ _. ⌜ now (image .exit) ≡ (def.viewCall (now (memory .entry)) (now (image .entry)) (now (report .entry))) .image ⌝ }
-    ensures report { λ _. ⌜ now (report .exit) ≡ (def.viewCall (now (memory .entry)) (now (image .entry)) (now (report .entry))) .report ⌝ }
+    ensures { λ r. ⌜ called r (now (memory .exit)) (now (image .exit)) (now (report .exit)) ≡ def.viewCall (now (memory .entry)) (now (image .entry)) (now (report .entry)) ⌝ }
 {
     match validate(memory.len(), image, report.len()) {
         Validity::Refused(refusal) => refusal::answer_of(refusal),

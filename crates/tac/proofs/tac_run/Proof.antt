@@ -1,6 +1,7 @@
 -- `tac::tac_run` meets its contract.
 -- Assumes nothing.
 use mathlib.Core.Path.{refl, sym, _∙_}
+use Rattle.refusal.specs.Call.{called-is}
 use Rattle.tac.specs.Call.{runCall}
 use Rattle.tac.proofs.Valid.{passed}
 use borrow.Author.Needs.{needs}
@@ -30,7 +31,7 @@ same-length c = search needs
 returns : tie.Need-returns
 unfolding runCall
 returns c =
-    rw (← c .before .before .before .before .validate .ensures, c .before .before .refusal .given .1) (c .answer-of .ensures, (refl, (refl, refl)))
+    rw (← c .before .before .before .before .validate .ensures, c .before .before .refusal .given .1) (called-is _ (c .answer-of .ensures) refl refl refl)
 
 same-length-2 : tie.Need-same-length-2
 same-length-2 c = search needs
@@ -47,7 +48,8 @@ returns-2 c =
     let ran = c .before .before .before .before .before .before in
     let told = ran .before .before .before .before in
     let checked = told .before .before in
-    rw (← checked .validate .ensures, told .enum-told .given .1) (refl, ran .run-valid .ensures)
+    let did = ran .run-valid .ensures in
+    rw (← checked .validate .ensures, told .enum-told .given .1) (called-is _ refl (did .0) (did .1 .0) (did .1 .1))
 
 pub tac-run-spec : {M : Type 1} → statement M
 tac-run-spec =

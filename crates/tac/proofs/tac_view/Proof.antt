@@ -2,6 +2,7 @@
 -- Assumes nothing.
 use mathlib.Core.Path.{refl, sym, _∙_}
 use Rattle.image.specs.Decode.{stateFrom}
+use Rattle.refusal.specs.Call.{called-is}
 use Rattle.tac.specs.Call.{viewCall}
 use Rattle.tac.proofs.Valid.{no-step, passed}
 use borrow.Author.Needs.{needs}
@@ -28,7 +29,7 @@ view-valid-requires c κs =
 returns : tie.Need-returns
 unfolding viewCall
 returns c =
-    rw (← c .before .before .before .before .validate .ensures, c .before .before .refusal .given .1) (c .answer-of .ensures, (refl, (refl, refl)))
+    rw (← c .before .before .before .before .validate .ensures, c .before .before .refusal .given .1) (called-is _ (c .answer-of .ensures) refl refl refl)
 
 same-length : tie.Need-same-length
 same-length c = search needs
@@ -40,7 +41,7 @@ returns-2 c =
     let checked = told .before .before in
     let start = checked .before .before .before .before in
     rw (← checked .validate .ensures, told .enum-told .given .1, no-step (stateFrom (start .args .image .now)) (start .args .memory .now))
-    (refl, (refl, (refl, c .before .before .view-valid .ensures)))
+    (called-is _ refl refl refl (c .before .before .view-valid .ensures))
 
 pub tac-view-spec : {M : Type 1} → statement M
 tac-view-spec =

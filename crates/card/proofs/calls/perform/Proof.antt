@@ -3,6 +3,7 @@
 use mathlib.Core.Path.{refl}
 use lib.ListN.{length}
 use borrow.Author.Needs.{needs}
+use Rattle.refusal.specs.Call.{called-is}
 use Rattle.card.specs.Call.{cardCall}
 use Rattle.card.specs.Passed.{Passed, passed}
 use Rattle.command.specs.Laws.{read-whole}
@@ -41,7 +42,7 @@ returns : tie.Need-returns
 unfolding cardCall
 returns c =
     rw (rw (c .before .before .before .before .validate .ensures) at (c .before .before .validity .given .1))
-    (c .answer-of .ensures, (refl, (refl, refl)))
+    (called-is _ (c .answer-of .ensures) refl refl refl)
 
 same-length-2 : tie.Need-same-length-2
 same-length-2 c = search needs
@@ -59,7 +60,8 @@ returns-2 c =
     let told = executed .before .before .before .before in
     let checked = told .before .before .validate .ensures in
     let whole = read-whole _ (good told .read) .1 in
-    rw (rw checked at (told .enum-told .given .1), whole) (rw (checked, whole), executed .execute-valid .ensures)
+    let did = executed .execute-valid .ensures in
+    rw (rw checked at (told .enum-told .given .1), whole) (called-is _ (rw (checked, whole)) (did .0) (did .1 .0) (did .1 .1))
 
 pub perform-spec : {M : Type 1} → statement M
 perform-spec =

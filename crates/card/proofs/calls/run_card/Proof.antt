@@ -1,6 +1,8 @@
 -- `card::calls::run_card` meets its contract.
 -- Assumes nothing.
+use mathlib.Core.Path.{ap}
 use borrow.Author.Needs.{needs}
+use Rattle.refusal.specs.Call.{Call}
 use Rattle.card.specs.Laws.{part-holds, part-long}
 use Rattle.card.proofs.calls.run_card.Statement.{statement}
 use Rattle.card.proofs.calls.run_card.Tie as tie
@@ -15,7 +17,7 @@ slice-aggregate-result : tie.Need-slice-aggregate-result
 slice-aggregate-result c =
     let called = c .before .before .before .before .before .before .before .before in
     let did = called .perform .ensures in
-    part-long _ _ _ _ _ _ _ (c .before .filled-by .ensures) (did .0) (did .1 .1 .1)
+    part-long _ _ _ _ _ _ _ (c .before .filled-by .ensures) (ap (λ (x : Call). x .answer) did) (ap (λ (x : Call). x .report) did)
 
 same-length : tie.Need-same-length
 same-length c = search needs
@@ -27,7 +29,7 @@ returns : tie.Need-returns
 returns c =
     let called = c .before .before .before .before .before .before .before .before in
     let did = called .perform .ensures in
-    (part-holds _ _ _ _ _ _ _ (c .before .filled-by .ensures) (did .0) (did .1 .1 .1), (did .0, (did .1 .0, did .1 .1 .0)))
+    (part-holds _ _ _ _ _ _ _ (c .before .filled-by .ensures) (ap (λ (x : Call). x .answer) did) (ap (λ (x : Call). x .report) did), (ap (λ (x : Call). x .answer) did, (ap (λ (x : Call). x .memory) did, ap (λ (x : Call). x .image) did)))
 
 pub run-card-spec : {M : Type 1} → statement M
 run-card-spec =
