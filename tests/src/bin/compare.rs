@@ -3,10 +3,12 @@
 //! compare [--factor N] [--seed N] [--part words|runs|cards|pairs|scenarios] [--scenario NAME] [--verbose 1]
 //! compare --replay FILE
 //!
-//! With `--verbose 1` each case is named before it is tried, for a crash. `--replay` does the case again that a text
+//! The parts run side by side. With `--verbose 1` each case is named before it is tried, for a crash. `--replay` does the case again that a text
 //! holds; where something differs, the smallest case found is printed as such a text.
 
 use std::process::exit;
+use std::sync::Mutex;
+use std::thread;
 use std::time::Instant;
 use tac_tests::case::{self, difference, perform, Call, Case, Emulator, Outcome, OWN};
 use tac_tests::emulator::{Machine, FLAG_BITS, I, P};
@@ -19,6 +21,9 @@ use tac_tests::rng::Rng;
 use tac_tests::scenarios::SCENARIOS;
 use tac_tests::{ffi, image, sample};
 
+/// Held by the part that prints a difference and then ends the program.
+static FOUND: Mutex<()> = Mutex::new(());
+
 const LIBRARY: Emulator = Emulator { run: ffi::run, card: ffi::card, view: ffi::view };
 
 const ROUNDS: u64 = 2;
@@ -28,7 +33,8 @@ const PAIRS: u64 = 60_000;
 /// Cases of each scenario.
 const EACH: u64 = 8_000;
 
-type Part = (&'static str, fn(&Arguments));
+/// A part's name, and what does it and gives its text.
+type Part = (&'static str, fn(&Arguments) -> String);
 const PARTS: [Part; 5] =
     [("words", words), ("runs", runs), ("cards", cards), ("pairs", pairs), ("scenarios", scenarios)];
 
@@ -107,24 +113,25 @@ impl Count {
         }
     }
 
-    fn print(&self, name: &str, start: Instant) {
+    fn text(&self, name: &str, start: Instant) -> String {
         let runs: u64 = self.endings.iter().sum();
-        println!("{name}: {} cases, {:.1} s, all equal", self.cases, start.elapsed().as_secs_f64());
+        let mut text = format!("{name}: {} cases, {:.1} s, all equal\n", self.cases, start.elapsed().as_secs_f64());
         let [spent, entered, halted, lost] = self.endings;
-        println!("  runs {runs}: spent {spent}, entered {entered}, halted {halted}, lost {lost}");
+        text += &format!("  runs {runs}: spent {spent}, entered {entered}, halted {halted}, lost {lost}\n");
         let average = self.steps as f64 / runs.max(1) as f64;
         let (steps, long, at_once) = (self.steps, self.long, self.at_once);
-        println!(
-            "  steps {steps}: {average:.1} a run, {long} runs of 100 or more, {at_once} with a fault at the first"
+        text += &format!(
+            "  steps {steps}: {average:.1} a run, {long} runs of 100 or more, {at_once} with a fault at the first\n"
         );
         let list = |numbers: &[u64]| {
             let named = numbers.iter().enumerate().filter(|(_, n)| **n != 0);
             named.map(|(k, n)| format!("{k}:{n}")).collect::<Vec<_>>().join(" ")
         };
-        println!("  entered by number: {}", list(&self.entered));
+        text += &format!("  entered by number: {}\n", list(&self.entered));
         if self.refused.iter().any(|n| *n != 0) {
-            println!("  refused by number: {}", list(&self.refused));
+            text += &format!("  refused by number: {}\n", list(&self.refused));
         }
+        text
     }
 }
 
@@ -149,6 +156,7 @@ impl Bench {
         perform(&OWN, case, &mut self.own);
         perform(&LIBRARY, case, &mut self.library);
         if self.own != self.library {
+            let _only = FOUND.lock();
             println!("MISMATCH in {}", place());
             println!("as found: {}", difference(&self.own, &self.library).unwrap_or_default());
             let small = case::shrink(case, &|c| case::differ(&OWN, &LIBRARY, c));
@@ -172,7 +180,7 @@ fn word_start(rng: &mut Rng, mmu_on: bool, bits: u16) -> (Machine, Ground) {
 }
 
 /// Every first word, one step, in each mode.
-fn words(args: &Arguments) {
+fn words(args: &Arguments) -> String {
     let settings = [
         ("user", true, 0),
         ("user with I/O", true, I),
@@ -181,6 +189,7 @@ fn words(args: &Arguments) {
         ("kernel, MMU off", false, P | I),
     ];
     let mut bench = Bench::new(args);
+    let mut text = String::new();
     for (k, (name, mmu_on, bits)) in settings.into_iter().enumerate() {
         let start = Instant::now();
         let mut count = Count::default();
@@ -206,8 +215,9 @@ fn words(args: &Arguments) {
                 case.memory[place[0]..place[0] + 2].copy_from_slice(&kept[0]);
             }
         }
-        count.print(&format!("words ({name})"), start);
+        text += &count.text(&format!("words ({name})"), start);
     }
+    text
 }
 
 fn word_state(rng: &mut Rng, machine: &mut Machine, ground: &Ground, pages: &[u8], bits: u16) {
@@ -246,20 +256,20 @@ fn random(
     }
 }
 
-fn runs(args: &Arguments) {
+fn runs(args: &Arguments) -> String {
     let (start, mut count, mut maker) = (Instant::now(), Count::default(), Maker::new());
     random(args, "runs", 20, RUNS, &mut count, &mut |rng, case| maker.run_case(rng, case));
-    count.print("runs", start);
+    count.text("runs", start)
 }
 
-fn cards(args: &Arguments) {
+fn cards(args: &Arguments) -> String {
     let (start, mut count, mut maker) = (Instant::now(), Count::default(), Maker::new());
     random(args, "cards", 30, CARDS, &mut count, &mut |rng, case| maker.card_case(rng, case));
-    count.print("cards", start);
+    count.text("cards", start)
 }
 
 /// Each scenario in turn.
-fn scenarios(args: &Arguments) {
+fn scenarios(args: &Arguments) -> String {
     let (start, mut count) = (Instant::now(), Count::default());
     for (k, scenario) in SCENARIOS.iter().enumerate() {
         if args.scenario.as_deref().is_none_or(|name| name == scenario.name) {
@@ -267,11 +277,11 @@ fn scenarios(args: &Arguments) {
             random(args, &name, 50 + k as u64, EACH, &mut count, &mut |rng, case| scenario.case(rng, case));
         }
     }
-    count.print("scenarios", start);
+    count.text("scenarios", start)
 }
 
 /// Demand 3, on the library alone.
-fn pairs(args: &Arguments) {
+fn pairs(args: &Arguments) -> String {
     let start = Instant::now();
     let mut count = Count::default();
     let (mut maker, mut pair) = (Maker::new(), Pair::empty());
@@ -293,6 +303,7 @@ fn pairs(args: &Arguments) {
                 stored += seen.stored as u64;
             }
             Err(what) => {
+                let _only = FOUND.lock();
                 println!("DEMAND 3 FAILS in pairs, case {index}: {what}");
                 let small = isolation::shrink(ffi::run, &pair);
                 print!("smallest pair found, for --replay:\n{}", isolation::describe(ffi::run, &small));
@@ -300,8 +311,10 @@ fn pairs(args: &Arguments) {
             }
         }
     }
-    count.print("pairs", start);
-    println!("  pairs with different handlers {handlers}, with secrets overwritten {overwrote}, with stores {stored}");
+    let found = format!(
+        "  pairs with different handlers {handlers}, with secrets overwritten {overwrote}, with stores {stored}\n"
+    );
+    count.text("pairs", start) + &found
 }
 
 /// Does the case of a text again; true if nothing differs.
@@ -333,10 +346,12 @@ fn main() {
     }
     println!("compare: seed {}, factor {}", args.seed, args.factor);
     let wanted = |name: &str| args.part.as_deref().is_none_or(|part| part == name);
-    for (name, part) in PARTS {
-        if wanted(name) {
-            part(&args);
+    thread::scope(|scope| {
+        let started: Vec<_> =
+            PARTS.iter().filter(|(name, _)| wanted(name)).map(|(_, part)| scope.spawn(|| part(&args))).collect();
+        for part in started {
+            print!("{}", part.join().unwrap());
         }
-    }
+    });
     println!("no mismatch");
 }
