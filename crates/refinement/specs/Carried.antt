@@ -19,11 +19,11 @@ use Rattle.hot.specs.Sources.{Named, Valued, by-frame, by-index, by-register, b
 use Rattle.hot.specs.Tells.{Acts, Added, Tells, Turned, called, compare, compute, divide, done, idled, jumped, load, none, one, operated, passed, popped, pushed, returned, shift, stop, stored}
 use Rattle.hot.specs.declared.Hot.{Hot}
 use Rattle.hot.specs.declared.source.Source.{Source}
-use Rattle.refinement.specs.Fetch.{MapOf}
-use Rattle.refinement.specs.Hot.{hotState, reg-hot}
+use Rattle.refinement.specs.Statement.{MapOf, hotState, Does}
+use Rattle.refinement.specs.Hot.{reg-hot}
 use Rattle.refinement.specs.Operands as operands
 use Rattle.refinement.specs.Operands.{Addressed, Second, Sourced, memory-read}
-use Rattle.refinement.specs.Operations.{Does, RxFine, call-does, compare-does, divide-does, jump-does, load-does, next-does, no-does, pass-does, pop-does, push-does, ret-does, rx-low, rx-unused, shift-does, store-does}
+use Rattle.refinement.specs.Operations.{RxFine, call-does, compare-does, divide-does, jump-does, load-does, next-does, no-does, pass-does, pop-does, push-does, ret-does, rx-low, rx-unused, shift-does, store-does}
 use Rattle.refinement.specs.Opens.{opens-call, opens-jump, opens-store}
 use Rattle.refinement.specs.Shorts.{frame-word, short-word}
 

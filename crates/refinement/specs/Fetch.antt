@@ -10,16 +10,13 @@ use Rattle.decode.specs.Opcode.{costOf, known, opcodeOf}
 use Rattle.decode.specs.declared.Instruction.{Instruction}
 use Rattle.decode.specs.declared.Operand.{Operand}
 use Rattle.decode.specs.declared.Privilege.the-variants.{Anyone}
-use Rattle.machine.specs.Enter.{Outcome}
 use Rattle.machine.specs.Flag.{flagOf}
 use Rattle.transfer.specs.Need.{addressOf, needOf, valueStored}
 use Rattle.machine.specs.Plan.{interrupted, planFetch, planFirst, planOf, planOperand, planSecond, planned, taken, translates}
 use Rattle.plan.specs.End.{endOf}
 use Rattle.machine.specs.Register.{regOf, spOf}
-use Rattle.machine.specs.Step.{commit, stepOf}
+use Rattle.machine.specs.Step.{stepOf}
 use Rattle.transfer.specs.Transfer.{transferOf}
-use Rattle.machine.specs.declared.Event.the-variants.{Executed}
-use Rattle.machine.specs.declared.Planned.{Planned}
 use Rattle.plan.specs.declared.Ready.{Ready}
 use Rattle.machine.specs.declared.State.{State}
 use Rattle.transfer.specs.declared.Transfer.the-variants.{Done}
@@ -28,23 +25,12 @@ use Rattle.memory.specs.Memory.{wordAt}
 use Rattle.mmu.specs.declared.Right.{Right}
 use Rattle.mmu.specs.declared.Right.the-variants.{Execute}
 use Rattle.memory.specs.declared.Store.{Store}
-use Rattle.pages.specs.Maps.{Mapped}
 use Rattle.word.specs.Word.{plus, upper}
+use Rattle.refinement.specs.Statement.{carriedOut}
 
 -- an access to a word that is granted at a physical address and leaves the TLB as it is
 abbrev pub Grants : State → Right → ℕ → ℕ → Type 0
 Grants st right a at = wordAccess (translates st) (st .tlb) right a ≡ granted at (st .tlb)
-
--- a map of the pages
-abbrev pub MapOf : State → List ℕ → Type 0
-MapOf st map = Mapped (translates st) (st .tlb) map
-
-abbrev pub carriedOut : Planned → List ℕ → Outcome
-carriedOut p m = commit (p .plan) (p .state) m
-
--- an instruction was carried out in n states
-abbrev pub did : State → List ℕ → ℕ → Outcome
-did st m n = record { state = st; memory = m; event = Executed n }
 
 -- the instruction of a row in a mode, with an operand
 abbrev pub instruction : Row → ℕ → ℕ → Operand → Instruction

@@ -1,4 +1,4 @@
--- A state whose registers, PC and arithmetic flags stand beside it: number n below 14 is the n-th of a list of 16, SP the 13th.
+-- Laws of a state whose registers, PC and arithmetic flags stand beside it.
 -- Assumes nothing.
 use mathlib.Core.Bool.{Bool, false, true}
 use mathlib.Core.List.{List, [], _++_, _∷_}
@@ -13,26 +13,7 @@ use Rattle.machine.specs.Register.{regIn, regOf, regsAfter, spIn, spOf, sspAfte
 use Rattle.machine.specs.State.{withRegs}
 use Rattle.machine.specs.Spelled.{spelled, whole}
 use Rattle.machine.specs.declared.State.{State}
-use Rattle.hot.specs.declared.Hot.{Hot}
-
-abbrev pub hot : State → List ℕ → ℕ → Bool → Bool → Bool → Bool → State
-hot b rs pc v c s z =
-    record {
-      regs = take 13 rs;
-      ssp = sspWith (b .flags .p) (b .ssp) (getD rs 13 0);
-      usp = uspWith (b .flags .p) (b .usp) (getD rs 13 0);
-      pc = pc;
-      flags = record { e = b .flags .e; p = b .flags .p; i = b .flags .i; v = v; c = c; s = s; z = z };
-      pending = b .pending;
-      ports = b .ports;
-      mmu = b .mmu;
-      condition = b .condition;
-      fault = b .fault;
-      tlb = b .tlb;
-    }
-
-abbrev pub hotState : State → List ℕ → Hot → State
-hotState b rs h = hot b rs (h .pc) (h .v) (h .c) (h .s) (h .z)
+use Rattle.refinement.specs.Statement.{hot}
 
 ssp-same : (p : Bool) (a b : ℕ) → sspWith p a (spIn p a b) ≡ a
 unfolding spIn sspWith

@@ -5,3 +5,4 @@ pub mod Opens
 pub mod Operands
 pub mod Operations
 pub mod Shorts
+pub mod Statement

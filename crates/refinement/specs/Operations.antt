@@ -1,6 +1,6 @@
 -- The operation stage: what an instruction does once its operand is known, on hot states.
 -- Assumes nothing.
-use mathlib.Core.Bool.{Bool, and-false, false, true, _&&_}
+use mathlib.Core.Bool.{and-false, false, true, _&&_}
 use mathlib.Core.List.{List}
 use mathlib.Core.Path.{ap, refl, _∙_, _≡_}
 use Prim.Native.Nat.{ℕ, _*_, _+_, _<_}
@@ -49,8 +49,9 @@ use Rattle.jump.specs.Jump.{conditionOf}
 use Rattle.jump.specs.Laws.{undefined-thirteen}
 use Rattle.word.specs.Word.{minus, plus, upper}
 use Rattle.alu.specs.declared.Alu.{Alu}
-use Rattle.refinement.specs.Fetch.{Grants, accessed, carriedOut, defined, did, one-word, readied}
-use Rattle.refinement.specs.Hot.{hot, hotState, reg-hot, sp-hot, sp-with-hot, with-hot}
+use Rattle.refinement.specs.Fetch.{Grants, accessed, defined, one-word, readied}
+use Rattle.refinement.specs.Statement.{carriedOut, did, hot, hotState, Does}
+use Rattle.refinement.specs.Hot.{reg-hot, sp-hot, sp-with-hot, with-hot}
 use Rattle.refinement.specs.Operands.{Addressed, Reached, Sourced}
 use Rattle.refinement.specs.Opens.{Opens, opens, opens-compute, opens-load}
 use Rattle.hot.specs.Rows.{Computes, add, addCost, adds, and, cmp, div, loadCost, modulo, mul, or, shla, shll, shra, shrl, sub, xor}
@@ -109,10 +110,6 @@ module _ (st : State) (m : List ℕ) (rd held source port pc states : ℕ) where
   carries shll n = refl
   carries shra n = refl
   carries shrl n = refl
-
--- what becomes of the hot state by the first word w: registers, PC, flags, memory, states
-abbrev pub Does : State → List ℕ → Hot → List ℕ → ℕ → List ℕ → ℕ → Bool → Bool → Bool → Bool → List ℕ → ℕ → Type 0
-Does b rs h m w rs′ pc v c s z m′ n = carriedOut (planFirst (firstOf w) (hotState b rs h) m) m ≡ did (hot b rs′ pc v c s z) m′ n
 
 module _ (b : State) (rs : List ℕ) (size : length rs ≡ 16) (h : Hot) (m : List ℕ) (w : ℕ) where
   abbrev st : State

@@ -15,8 +15,8 @@ use Rattle.mmu.specs.declared.Right.the-variants.{Execute}
 use Rattle.pages.specs.Accesses.{Reads}
 use Rattle.pages.specs.Maps.{access-granted}
 use Rattle.pages.specs.declared.Width.the-variants.{Word}
-use Rattle.refinement.specs.Fetch.{MapOf, begins, did}
-use Rattle.refinement.specs.Hot.{hotState}
+use Rattle.refinement.specs.Statement.{MapOf, did, hotState}
+use Rattle.refinement.specs.Fetch.{begins}
 use Rattle.hot.specs.Tells.{Tells, stopped}
 use Rattle.refinement.specs.Carried.{carried}
 use Rattle.hot.specs.declared.Hot.{Hot}

@@ -3,7 +3,7 @@ ghost use mathlib.Core.Path.{_≡_};
 ghost use Prim.Native.Nat.{_*_, _≤_};
 ghost use lib.ListN.{length};
 ghost use Rattle.runner.specs.Goes.{Goes, Ready};
-ghost use Rattle.refinement.specs.Hot.{hot, hotState};
+ghost use Rattle.refinement.specs.Statement.{hot, hotState};
 use crate::Part;
 use crate::quick::quick;
 use hot::Hot;

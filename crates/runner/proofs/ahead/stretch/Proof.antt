@@ -5,7 +5,7 @@ use mathlib.Core.Path.{_≡_}
 use Prim.Native.Nat.{_*_, _≤_}
 use borrow.Author.Needs.{needs}
 use lib.ListN.{length}
-use Rattle.refinement.specs.Hot.{hotState}
+use Rattle.refinement.specs.Statement.{hotState}
 use Rattle.runner.specs.Goes.{Goes}
 use Rattle.runner.proofs.ahead.stretch.Statement.{statement}
 use Rattle.runner.proofs.ahead.stretch.Tie as tie
