@@ -37,7 +37,7 @@ use Rattle.report.specs.Layout.{reportSize}
 use Rattle.report.specs.Report.{reportOf}
 use Rattle.roundtrip.specs.Each.{each-set}
 use Rattle.roundtrip.specs.Statement.{Byte, Bytes}
-use Rattle.tac.specs.Call.{runCall, runValid}
+use Rattle.direct.specs.Call.{runCall, runValid}
 use Rattle.endian.specs.Bytes.{wordBytes, wordFrom}
 use Rattle.word.specs.Cases.{rest, this}
 use Rattle.word.specs.Word.{upper}

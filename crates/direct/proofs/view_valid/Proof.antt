@@ -1,8 +1,8 @@
--- `tac::view_valid` meets its contract.
+-- `direct::view_valid` meets its contract.
 -- Assumes nothing.
 use borrow.Author.Needs.{needs}
-use Rattle.tac.proofs.view_valid.Statement.{statement}
-use Rattle.tac.proofs.view_valid.Tie as tie
+use Rattle.direct.proofs.view_valid.Statement.{statement}
+use Rattle.direct.proofs.view_valid.Tie as tie
 
 read-image-requires : tie.Need-read-image-requires
 read-image-requires c κs = search needs

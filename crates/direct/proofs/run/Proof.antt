@@ -1,12 +1,12 @@
--- `tac::tac_run` meets its contract.
+-- `direct::run` meets its contract.
 -- Assumes nothing.
 use mathlib.Core.Path.{refl, sym, _∙_}
 use Rattle.refusal.specs.Call.{called-is}
-use Rattle.tac.specs.Call.{runCall}
-use Rattle.tac.proofs.Valid.{passed}
+use Rattle.direct.specs.Call.{runCall}
+use Rattle.direct.proofs.Valid.{passed}
 use borrow.Author.Needs.{needs}
-use Rattle.tac.proofs.tac_run.Statement.{statement}
-use Rattle.tac.proofs.tac_run.Tie as tie
+use Rattle.direct.proofs.run.Statement.{statement}
+use Rattle.direct.proofs.run.Tie as tie
 
 validate-requires : tie.Need-validate-requires
 validate-requires c κs = search needs
@@ -51,8 +51,8 @@ returns-2 c =
     let did = ran .run-valid .ensures in
     rw (← checked .validate .ensures, told .enum-told .given .1) (called-is _ refl (did .0) (did .1 .0) (did .1 .1))
 
-pub tac-run-spec : {M : Type 1} → statement M
-tac-run-spec =
+pub run-spec : {M : Type 1} → statement M
+run-spec =
     tie.close
     (tie.spec
     validate-requires

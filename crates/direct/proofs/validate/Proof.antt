@@ -1,10 +1,10 @@
--- `tac::validate` meets its contract.
+-- `direct::validate` meets its contract.
 -- Assumes nothing.
 use mathlib.Core.Path.{ap₂, _∙_}
 use Rattle.refusal.specs.Refusal.{andThen}
 use borrow.Author.Needs.{needs}
-use Rattle.tac.proofs.validate.Statement.{statement}
-use Rattle.tac.proofs.validate.Tie as tie
+use Rattle.direct.proofs.validate.Statement.{statement}
+use Rattle.direct.proofs.validate.Tie as tie
 
 validate-requires : tie.Need-validate-requires
 validate-requires c κs = search needs

@@ -1,13 +1,13 @@
--- `tac::tac_view` meets its contract.
+-- `direct::view` meets its contract.
 -- Assumes nothing.
 use mathlib.Core.Path.{refl, sym, _∙_}
 use Rattle.image.specs.Decode.{stateFrom}
 use Rattle.refusal.specs.Call.{called-is}
-use Rattle.tac.specs.Call.{viewCall}
-use Rattle.tac.proofs.Valid.{no-step, passed}
+use Rattle.direct.specs.Call.{viewCall}
+use Rattle.direct.proofs.Valid.{no-step, passed}
 use borrow.Author.Needs.{needs}
-use Rattle.tac.proofs.tac_view.Statement.{statement}
-use Rattle.tac.proofs.tac_view.Tie as tie
+use Rattle.direct.proofs.view.Statement.{statement}
+use Rattle.direct.proofs.view.Tie as tie
 
 validate-requires : tie.Need-validate-requires
 validate-requires c κs = search needs
@@ -43,8 +43,8 @@ returns-2 c =
     rw (← checked .validate .ensures, told .enum-told .given .1, no-step (stateFrom (start .args .image .now)) (start .args .memory .now))
     (called-is _ refl refl refl (c .before .before .view-valid .ensures))
 
-pub tac-view-spec : {M : Type 1} → statement M
-tac-view-spec =
+pub view-spec : {M : Type 1} → statement M
+view-spec =
     tie.close
     (tie.spec
     validate-requires

@@ -1,4 +1,4 @@
--- `tac::run_valid` meets its contract.
+-- `direct::run_valid` meets its contract.
 -- Assumes nothing.
 use mathlib.Core.List.{_++_}
 use mathlib.Core.Path.{ap, _∙_}
@@ -9,8 +9,8 @@ use Rattle.machine.specs.declared.Finished.{Finished}
 use Rattle.report.specs.Layout.{reportSize}
 use Rattle.report.specs.Report.{reportOf}
 use borrow.Author.Needs.{needs}
-use Rattle.tac.proofs.run_valid.Statement.{statement}
-use Rattle.tac.proofs.run_valid.Tie as tie
+use Rattle.direct.proofs.run_valid.Statement.{statement}
+use Rattle.direct.proofs.run_valid.Tie as tie
 
 read-image-requires : tie.Need-read-image-requires
 read-image-requires c κs = search needs

@@ -16,7 +16,7 @@ use Rattle.refusal.specs.Laws.{report-good, then-good}
 use Rattle.refusal.specs.Refusal.{reportFits}
 use Rattle.refusal.specs.declared.Validity.the-variants.{Good}
 use Rattle.report.specs.Layout.{reportSize}
-use Rattle.tac.specs.Call.{runValid}
+use Rattle.direct.specs.Call.{runValid}
 
 -- memory, image and report are long enough
 pub record Passed (long : ℕ) (image : List ℕ) (report : ℕ) : Type 0 where
