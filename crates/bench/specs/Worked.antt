@@ -15,7 +15,8 @@ use Rattle.image.specs.Decode.{conditionFrom, stateFrom}
 use Rattle.layout.specs.Valid.{allZeros, flagGood, goodImage, machineValid, pendingGood, zerosGood}
 use Rattle.listing.specs.Listing.{endingText, lineOf, linesOf, listingOf, numberText, runsText}
 use Rattle.text.specs.Text.{ascii, decimalOf, hexOf}
-use Rattle.machine.specs.Enter.{enterOf, pushed}
+use Rattle.machine.specs.Enter.{enterOf}
+use Rattle.status.specs.Saved.{pushed}
 use Rattle.machine.specs.Execute.{afterOperation, bodyOf, eventOf}
 use Rattle.status.specs.Flag.{flagWord}
 use Rattle.transfer.specs.Need.{needOf}

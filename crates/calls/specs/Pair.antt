@@ -20,7 +20,8 @@ use Rattle.image.specs.Image.{imageOf}
 use Rattle.layout.specs.Layout.{imageSize, mmuAt, pcAt, sspAt, tlbAt}
 use Rattle.layout.specs.Valid.{allZeros, flagGood, goodImage, machineValid, pendingGood, zerosGood}
 use Rattle.isolation.specs.Statement.{hasRight, visible}
-use Rattle.machine.specs.Enter.{enterOf, pushed}
+use Rattle.machine.specs.Enter.{enterOf}
+use Rattle.status.specs.Saved.{pushed}
 use Rattle.status.specs.Flag.{flagWord}
 use Rattle.transfer.specs.Need.{needOf}
 use Rattle.machine.specs.Plan.{planFetch, planFirst, planOf, planOperand, planSecond}

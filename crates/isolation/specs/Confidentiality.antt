@@ -196,7 +196,7 @@ module _ (m m′ : List ℕ) where
               state = refl;
               handler = refl;
               handler′ = refl;
-              memory = λ a e. pushed-agree (s .ssp) (flagOf s) saved m m′ a l e;
+              memory = λ a e. pushed-agree (s .ssp) (s .flags) saved m m′ a l e;
             }
 
     no-entry : (op : Operation) (s : State) (n : List ℕ) → atHandler (endingOf (eventOf op)) s n

@@ -240,8 +240,8 @@ module _ (st : State) where
           kept = record { privilege = n .privilege; stack = n .stack; condition = refl; ports = n .ports; mmu = n .mmu; rights = n .rights };
         })
         (record {
-          long = pushed-long (s .ssp) (flagOf s) saved m;
-          spared = λ a w. rw (← n .stack) (pushed-kept (s .ssp) (flagOf s) saved m a);
+          long = pushed-long (s .ssp) (s .flags) saved m;
+          spared = λ a w. rw (← n .stack) (pushed-kept (s .ssp) (s .flags) saved m a);
           kept = record { privilege = refl; stack = rw (n .stack); condition = n .condition; ports = n .ports; mmu = n .mmu; rights = n .rights };
         })
 

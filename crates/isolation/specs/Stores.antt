@@ -10,7 +10,9 @@ use borrow.Author.Tests.{eqb-false, eqb-true}
 use lib.Dec.{eqb}
 use lib.ListN.{getD, length, length-set, set}
 use lib.Seq.{getD-set-other}
-use Rattle.machine.specs.Enter.{pushed}
+use Rattle.status.specs.Flag.{wordOf}
+use Rattle.status.specs.Saved.{pushed}
+use Rattle.status.specs.declared.Flags.{Flags}
 use Rattle.memory.specs.Memory.{storeWord, stored}
 use Rattle.mmu.specs.declared.Right.the-variants.{Write}
 use Rattle.memory.specs.declared.Store.{Store}
@@ -24,9 +26,9 @@ use Rattle.isolation.specs.Statement.{Pushed, hasRight}
 word-long : (m : List ℕ) (i v : ℕ) → length (storeWord m i v) ≡ length m
 word-long m i v = length-set (set m i (upper v)) (plus i 1) (lower v) ∙ length-set m i (upper v)
 
-pub pushed-long : (ssp flag saved : ℕ) (m : List ℕ) → length (pushed ssp flag saved m) ≡ length m
+pub pushed-long : (ssp : ℕ) (flags : Flags) (saved : ℕ) (m : List ℕ) → length (pushed ssp flags saved m) ≡ length m
 unfolding pushed
-pushed-long ssp flag saved m = word-long (storeWord m (minus ssp 2) saved) (minus ssp 4) flag ∙ word-long m (minus ssp 2) saved
+pushed-long ssp flags saved m = word-long (storeWord m (minus ssp 2) saved) (minus ssp 4) (wordOf flags) ∙ word-long m (minus ssp 2) saved
 
 -- ---- two memories of one length
 
@@ -54,11 +56,11 @@ stored-agree (Word i v) m m′ a l e = word-agree m m′ i v a l e
 stored-agree (Byte i v) m m′ a l e = set-agree m m′ i (lower v) a l e
 
 pub pushed-agree :
-    (ssp flag saved : ℕ) (m m′ : List ℕ) (a : ℕ) → length m ≡ length m′ → Agree a m m′
-    → Agree a (pushed ssp flag saved m) (pushed ssp flag saved m′)
+    (ssp : ℕ) (flags : Flags) (saved : ℕ) (m m′ : List ℕ) (a : ℕ) → length m ≡ length m′ → Agree a m m′
+    → Agree a (pushed ssp flags saved m) (pushed ssp flags saved m′)
 unfolding pushed
-pushed-agree ssp flag saved m m′ a l e =
-    word-agree (storeWord m (minus ssp 2) saved) (storeWord m′ (minus ssp 2) saved) (minus ssp 4) flag a
+pushed-agree ssp flags saved m m′ a l e =
+    word-agree (storeWord m (minus ssp 2) saved) (storeWord m′ (minus ssp 2) saved) (minus ssp 4) (wordOf flags) a
     (word-long m (minus ssp 2) saved ∙ l ∙ sym (word-long m′ (minus ssp 2) saved))
     (word-agree m m′ (minus ssp 2) saved a l e)
 
@@ -81,9 +83,9 @@ word-kept m i v a = by (set-kept (set m i (upper v)) (plus i 1) (lower v) a) (se
     by (inl p) (inr e) = inr (inl e)
     by (inl p) (inl q) = inl (p ∙ q)
 
-pub pushed-kept : (ssp flag saved : ℕ) (m : List ℕ) (a : ℕ) → (getD (pushed ssp flag saved m) a 0 ≡ getD m a 0) ⊎ Pushed ssp a
+pub pushed-kept : (ssp : ℕ) (flags : Flags) (saved : ℕ) (m : List ℕ) (a : ℕ) → (getD (pushed ssp flags saved m) a 0 ≡ getD m a 0) ⊎ Pushed ssp a
 unfolding pushed
-pushed-kept ssp flag saved m a = by (word-kept (storeWord m (minus ssp 2) saved) (minus ssp 4) flag a) (word-kept m (minus ssp 2) saved a)
+pushed-kept ssp flags saved m a = by (word-kept (storeWord m (minus ssp 2) saved) (minus ssp 4) (wordOf flags) a) (word-kept m (minus ssp 2) saved a)
   where
     by :
         {x y z : ℕ} → (x ≡ y) ⊎ ((a ≡ minus ssp 4) ⊎ (a ≡ plus (minus ssp 4) 1))

@@ -1,4 +1,5 @@
 // Jump conditions.
+ghost use mathlib.Core.Bool.{Bool};
 ghost use mathlib.Core.Path.{_≡_};
 ghost use Prim.Native.Nat.{_<_, _≤_};
 ghost use Rattle.jump.specs.Jump as def;
@@ -29,10 +30,10 @@ fn flag_test(code: u8, v: bool, c: bool, s: bool, z: bool) -> bool
     }
 }
 
-// Conditions 4 to 7: a comparison of signed numbers. None of them asks for C.
-fn signed_test(code: u8, v: bool, c: bool, s: bool, z: bool) -> bool
+// Conditions 4 to 7: a comparison of signed numbers, whatever C is.
+fn signed_test(code: u8, v: bool, s: bool, z: bool) -> bool
     requires { ⌜ (4 ≤ code) × (code < 8) ⌝ }
-    ensures { λ r. ⌜ def.testOf r ≡ def.conditionOf code v c s z ⌝ }
+    ensures { λ r. ⌜ ((c : Bool) → def.testOf r ≡ def.conditionOf code v c s z) ⌝ }
 {
     match code {
         4 => !(z | (s != v)),
@@ -52,7 +53,7 @@ pub fn condition(code: u8, v: bool, c: bool, s: bool, z: bool) -> Test
         14 => test_of(z | c),
         15 => Test::Holds,
         0..=3 => test_of(flag_test(code, v, c, s, z)),
-        4..=7 => test_of(signed_test(code, v, c, s, z)),
+        4..=7 => test_of(signed_test(code, v, s, z)),
         8..=11 => test_of(!flag_test(code - 8, v, c, s, z)),
         _ => Test::Undefined,
     }

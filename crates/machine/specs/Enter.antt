@@ -5,8 +5,9 @@ use mathlib.Core.Bool.{cond}
 use mathlib.Core.List.{List}
 use Prim.Native.Nat.{ℕ, _%_, _*_}
 use lib.Dec.{eqb}
-use Rattle.memory.specs.Memory.{storeWord, wordAt}
+use Rattle.memory.specs.Memory.{wordAt}
 use Rattle.status.specs.Flag.{kernelFlags}
+use Rattle.status.specs.Saved.{pushed}
 use Rattle.word.specs.Word.{minus, plus}
 use Rattle.machine.specs.Flag.{flagOf}
 use Rattle.machine.specs.State.{withCondition, withPc, withFlags, withPending, withStack}
@@ -29,10 +30,6 @@ vectors = 0xffe0
 abbrev pub vectorOf : ℕ → ℕ
 vectorOf number = plus vectors (2 * number)
 
--- memory after the pushes: PC at SSP-2, FLAG at SSP-4
-unfoldable pub pushed : ℕ → ℕ → ℕ → List ℕ → List ℕ
-pushed ssp flag saved m = storeWord (storeWord m (minus ssp 2) saved) (minus ssp 4) flag
-
 -- the state in the handler, whose address is `handler`
 abbrev pub inKernel : State → ℕ → State
 inKernel st handler = withPc (withStack (withFlags st (kernelFlags (st .flags))) (minus (st .ssp) 4) (st .usp)) handler
@@ -40,7 +37,7 @@ inKernel st handler = withPc (withStack (withFlags st (kernelFlags (st .flags)))
 -- the entry with a number, `saved` being the PC that is pushed
 abbrev pub entered : State → ℕ → ℕ → List ℕ → Outcome
 entered st number saved m =
-    let m′ : List ℕ = pushed (st .ssp) (flagOf st) saved m in
+    let m′ : List ℕ = pushed (st .ssp) (st .flags) saved m in
     record { state = inKernel st (wordAt m′ (vectorOf number)); memory = m′; event = Entered number saved (flagOf st) }
 
 -- "If SSP is odd the machine is lost instead: one step, 0 states; the condition changes"

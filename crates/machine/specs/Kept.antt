@@ -22,7 +22,8 @@ use Rattle.memory.specs.declared.Store.{Store}
 use Rattle.memory.specs.declared.Store.the-variants as store
 use Rattle.word.specs.Cases.{either}
 use Rattle.word.specs.Word.{plus}
-use Rattle.machine.specs.Enter.{Outcome, enterOf, pushed}
+use Rattle.machine.specs.Enter.{Outcome, enterOf}
+use Rattle.status.specs.Saved.{pushed}
 use Rattle.machine.specs.Execute.{eventOf}
 use Rattle.machine.specs.Fault.{noted}
 use Rattle.machine.specs.Plan.{after, fetched, planOf, planOperand, translates}

@@ -7,22 +7,12 @@ use crate::Condition;
 use crate::Event;
 use crate::State;
 use crate::Stepped;
-use memory::store_word;
 use memory::word_at;
 use word::minus;
 use word::plus;
 
 // Where the vectors begin.
 const VECTORS: u16 = 0xffe0;
-
-// PC and FLAG pushed on SSP.
-fn push_both(mem: &mut [u8], ssp: u16, flag: u16, saved: u16)
-    requires { ⌜ length (now mem) ≡ 65536 ⌝ }
-    ensures { λ _. ⌜ now (mem .exit) ≡ def.pushed ssp flag saved (now (mem .entry)) ⌝ }
-{
-    store_word(mem, minus(ssp, 2), saved);
-    store_word(mem, minus(ssp, 4), flag);
-}
 
 impl State {
     pub(crate) fn set_pending(mut self, lines: u16) -> State
@@ -59,7 +49,7 @@ impl State {
         }
         let flags = self.flags;
         let flag = flags.word();
-        push_both(mem, self.ssp, flag, saved);
+        flags.push(mem, self.ssp, saved);
         let handler = word_at(mem, plus(VECTORS, 2 * (number as u16)));
         Stepped {
             state: self.set_pending(pending).in_kernel(handler),

@@ -7,7 +7,10 @@ use native.Mathlib.Omega.{arith}
 use lib.Dec.{eqb, ltb}
 use lib.ListN.{getD, set}
 use Rattle.decode.specs.Code.{HALT}
-use Rattle.machine.specs.Enter.{Outcome, enterOf, pushed, vectorOf}
+use Rattle.machine.specs.Enter.{Outcome, enterOf, vectorOf}
+use Rattle.status.specs.Flag.{wordOf}
+use Rattle.status.specs.Saved.{pushed}
+use Rattle.status.specs.declared.Flags.{Flags}
 use Rattle.machine.specs.Execute.{afterOperation, bodyOf, eventOf}
 use Rattle.plan.specs.Result.{aluOf}
 use Rattle.machine.specs.Fault.{noted}
@@ -148,10 +151,10 @@ stored-bytes store.Nothing h m b = b
 stored-bytes (store.Word a v) h m b = word-bytes m a v b h
 stored-bytes (store.Byte a v) h m b = each-set Byte m a (lower v) b (omega arith)
 
-pushed-bytes : (ssp flag saved : ℕ) → Word flag → Word saved → (m : List ℕ) → Bytes m → Bytes (pushed ssp flag saved m)
+pushed-bytes : (ssp : ℕ) (flags : Flags) (saved : ℕ) → Word (wordOf flags) → Word saved → (m : List ℕ) → Bytes m → Bytes (pushed ssp flags saved m)
 unfolding pushed
-pushed-bytes ssp flag saved f h m b =
-    word-bytes (storeWord m (minus ssp 2) saved) (minus ssp 4) flag (word-bytes m (minus ssp 2) saved b h) f
+pushed-bytes ssp flags saved f h m b =
+    word-bytes (storeWord m (minus ssp 2) saved) (minus ssp 4) (wordOf flags) (word-bytes m (minus ssp 2) saved b h) f
 
 -- ---- the step
 
@@ -174,8 +177,8 @@ module _ (m : List ℕ) (b : Bytes m) where
       (st : State) (pending number saved : ℕ) → Ranged st → Byte number → Word saved → OutcomeFits (enterOf st pending number saved m)
   enter-fits st pending number saved r low h =
       let flag : Byte (flagOf st) = flag-bits (st .flags) .0 in
-      let m′ : List ℕ = pushed (st .ssp) (flagOf st) saved m in
-      let b′ : Bytes m′ = pushed-bytes (st .ssp) (flagOf st) saved (omega arith) h m b in
+      let m′ : List ℕ = pushed (st .ssp) (st .flags) saved m in
+      let b′ : Bytes m′ = pushed-bytes (st .ssp) (st .flags) saved (omega arith) h m b in
       enter-by OutcomeFits st pending number saved m
       (record { state = search (r, r .words, r .entries); memory = b; event = tt })
       (record { state = search (r, r .words, r .entries, wrap-fits, word-fits m′ b′ (vectorOf number)); memory = b′; event = (low, h, omega arith) })

@@ -1,3 +1,4 @@
 pub mod Fault
 pub mod Flag
 pub mod Lines
+pub mod Saved

@@ -1,7 +1,8 @@
-// The status registers: FLAG, the record of a fault, the pending lines.
+// The status registers: FLAG, the record of a fault, the pending lines; what a kernel entry saves.
 mod flag;
 mod lines;
 mod record;
+mod saved;
 
 pub use flag::taken;
 pub use lines::without;

@@ -9,7 +9,8 @@ use Rattle.decode.specs.Instructions.{addStates, divStates, eight, row, rows, s
 use Rattle.decode.specs.Opcode.{Opcode, costOf, inModes, inRows, known, modeBits, opcodeOf, statesAt, unknown}
 use Rattle.image.specs.Decode.{conditionFrom}
 use Rattle.machine.specs.Answers.{statesOf}
-use Rattle.machine.specs.Enter.{enterOf, pushed}
+use Rattle.machine.specs.Enter.{enterOf}
+use Rattle.status.specs.Saved.{pushed}
 use Rattle.machine.specs.Execute.{afterOperation, bodyOf, eventOf}
 use Rattle.plan.specs.Result.{aluOf}
 use Rattle.status.specs.Flag.{flagWord}

@@ -52,7 +52,7 @@ returns-5 : tie.Need-returns-5
 returns-5 c = c .test-of3 .ensures ∙ c .before .flag-test .ensures
 
 returns-6 : tie.Need-returns-6
-returns-6 c = c .test-of4 .ensures ∙ c .before .signed-test .ensures
+returns-6 c = c .test-of4 .ensures ∙ c .before .signed-test .ensures _
 
 returns-7 : tie.Need-returns-7
 returns-7 c =

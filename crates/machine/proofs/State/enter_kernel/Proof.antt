@@ -17,8 +17,8 @@ returns c = rw (eq-eqb _ _ (c .before .if1 .taken)) (c .set-condition .ensures, 
 word-requires : tie.Need-word-requires
 word-requires c κs = search needs
 
-push-both-requires : tie.Need-push-both-requires
-push-both-requires c κs = search needs
+push-requires : tie.Need-push-requires
+push-requires c κs = search needs
 
 mul-plus : tie.Need-mul-plus
 mul-plus c = search needs
@@ -42,7 +42,7 @@ returns-2 : tie.Need-returns-2
 unfolding enterOf
 returns-2 c =
     let pushed = c .before .before .before .before .before .before .before in
-    rw (ne-eqb _ _ (pushed .before .before .before .before .if1 .left), ← pushed .before .before .word .ensures, ← pushed .push-both .ensures)
+    rw (ne-eqb _ _ (pushed .before .before .before .before .if1 .left), ← pushed .before .before .word .ensures, ← pushed .push .ensures)
     (rw (← c .before .before .before .plus .ensures, ← c .before .before .word-at .ensures)
     (rw (c .in-kernel .ensures, c .before .set-pending .ensures), (refl, refl)))
 
@@ -53,7 +53,7 @@ enter-kernel-spec =
     set-condition-requires
     returns
     word-requires
-    push-both-requires
+    push-requires
     mul-plus
     plus-requires
     word-at-requires
