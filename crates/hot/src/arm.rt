@@ -5,7 +5,7 @@ ghost use lib.ListN.{length, set};
 ghost use Rattle.status.specs.Flag.{takenOn};
 ghost use Rattle.hot.specs.Rows.{addCost, loadCost};
 ghost use Rattle.hot.specs.Fields.{modeOf};
-ghost use Rattle.hot.specs.Tells.{Divided, Operates};
+ghost use Rattle.hot.specs.Tells as def;
 use crate::Hot;
 use crate::register::USP;
 use crate::source::Source;
@@ -16,7 +16,7 @@ use pages::NONE;
 impl Hot {
     // To another address, in these states.
     pub(crate) fn to(self, pc: u16, cost: u32) -> Hot
-        ensures { λ r. ⌜ r ≡ record { pc = pc; v = self .v; c = self .c; s = self .s; z = self .z; cost = cost } ⌝ }
+        ensures { λ r. ⌜ r ≡ def.to self pc cost ⌝ }
     {
         Hot {
             pc,
@@ -45,7 +45,7 @@ impl Hot {
     // LD and ADD to SHRL with their operand.
     pub(crate) fn operate(self, regs: &mut [u16; 16], w: u16, x: Source) -> Hot
         requires { ⌜ (length (now regs) ≡ 16) × (x .cost ≡ addCost (modeOf w)) ⌝ }
-        ensures { λ r. ⌜ Operates (now (regs .entry)) self w x (now (regs .exit)) r ⌝ }
+        ensures { λ r. ⌜ def.Operates (now (regs .entry)) self w x (now (regs .exit)) r ⌝ }
     {
         let d = (w / 16 % 16) as usize;
         if USP <= d {
@@ -79,7 +79,7 @@ impl Hot {
 
     fn load(self, regs: &mut [u16; 16], d: usize, v: u16, pc: u16, cost: u32) -> Hot
         requires { ⌜ (length (now regs) ≡ 16) × (d < 16) ⌝ }
-        ensures value { λ r. ⌜ r ≡ record { pc = pc; v = self .v; c = self .c; s = self .s; z = self .z; cost = cost } ⌝ }
+        ensures value { λ r. ⌜ r ≡ def.to self pc cost ⌝ }
         ensures written { λ r. ⌜ now (regs .exit) ≡ set (now (regs .entry)) d v ⌝ }
     {
         regs[d] = v;
@@ -89,7 +89,7 @@ impl Hot {
     // A quotient or a remainder, where the divisor is not 0.
     fn divide(self, regs: &mut [u16; 16], d: usize, b: u16, r: Alu, pc: u16, cost: u32) -> Hot
         requires { ⌜ (length (now regs) ≡ 16) × (d < 16) ⌝ }
-        ensures { λ r0. ⌜ Divided (now (regs .entry)) d b r pc cost (now (regs .exit)) r0 ⌝ }
+        ensures { λ r0. ⌜ def.Divided (now (regs .entry)) d b r pc cost (now (regs .exit)) r0 ⌝ }
     {
         if b == 0 {
             return self.stop();
@@ -108,7 +108,7 @@ fn load_cost(w: u16, cost: u32) -> u32
 
 // The flags of a result.
 fn flagged(r: Alu, pc: u16, cost: u32) -> Hot
-    ensures { λ r0. ⌜ r0 ≡ record { pc = pc; v = r .v; c = r .c; s = r .s; z = r .z; cost = cost } ⌝ }
+    ensures { λ r0. ⌜ r0 ≡ def.flagged r pc cost ⌝ }
 {
     Hot {
         pc,
@@ -123,7 +123,7 @@ fn flagged(r: Alu, pc: u16, cost: u32) -> Hot
 // A result to a register.
 fn with(regs: &mut [u16; 16], d: usize, r: Alu, pc: u16, cost: u32) -> Hot
     requires { ⌜ (length (now regs) ≡ 16) × (d < 16) ⌝ }
-    ensures value { λ r0. ⌜ r0 ≡ record { pc = pc; v = r .v; c = r .c; s = r .s; z = r .z; cost = cost } ⌝ }
+    ensures value { λ r0. ⌜ r0 ≡ def.flagged r pc cost ⌝ }
     ensures written { λ r0. ⌜ now (regs .exit) ≡ set (now (regs .entry)) d (r .value) ⌝ }
 {
     regs[d] = r.value;
