@@ -21,7 +21,8 @@ use Rattle.refusal.specs.declared.Refusal.{Refusal}
 use Rattle.refusal.specs.declared.Validity.the-variants.{Good, Refused}
 use Rattle.report.specs.Layout.{endingAt, numberAt}
 use Rattle.roundtrip.specs.Statement.{Bytes}
-use Rattle.direct.specs.Call.{runCall, runValid}
+use Rattle.direct.specs.Call.{runCall}
+use Rattle.view.specs.Call.{runValid}
 use Rattle.endian.specs.Bytes.{byteFrom, wordFrom}
 use Rattle.word.specs.Word.{upper}
 

@@ -36,7 +36,8 @@ use Rattle.roundtrip.specs.Good.{good-decoded, image-long, rejoined, spelled-ou
 use Rattle.roundtrip.specs.Ranged.{ranged-decoded}
 use Rattle.roundtrip.specs.Runs.{run-good, run-ranged}
 use Rattle.roundtrip.specs.Statement.{Bytes, GoodState, Ranged}
-use Rattle.direct.specs.Call.{ranCall, runCall, runValid}
+use Rattle.direct.specs.Call.{ranCall, runCall}
+use Rattle.view.specs.Call.{runValid}
 use Rattle.endian.specs.Bytes.{wordBytes, wordFrom}
 use Rattle.calls.specs.Statement.{AtHandler, Enters, Given, IsolatedCalls, PcByte, Shared, Spared, refusedCall}
 

@@ -13,11 +13,11 @@ use Rattle.decode.specs.declared.Flow.the-variants as flow
 use Rattle.plan.specs.Result.{aluOf}
 use Rattle.alu.specs.Alu.{places, subOf}
 use Rattle.alu.specs.declared.Alu.{Alu}
-use Rattle.hot.specs.Fields.{modeOf}
-use Rattle.hot.specs.Rows.{Computes, addCost, below-eight, loadCost}
+use Rattle.source.specs.Fields.{modeOf}
+use Rattle.source.specs.Rows.{Computes, addCost, below-eight, loadCost}
 use Rattle.hot.specs.Tells.{Divided, Operates, act, by-zero, compare, compute, divide, flagged, load, quotient, shift, stay, to}
 use Rattle.hot.specs.declared.Hot.{Hot}
-use Rattle.hot.specs.declared.source.Source.{Source}
+use Rattle.source.specs.declared.operand.Source.{Source}
 
 -- the states of ADD in any mode
 pub cost-above : (mode : ℕ) → mode < 8 → 3 < addCost mode

@@ -15,11 +15,11 @@ use Rattle.pages.specs.declared.Width.{Width}
 use Rattle.pages.specs.declared.Width.the-variants.{Word}
 use Rattle.status.specs.Flag.{holds}
 use Rattle.word.specs.Word.{minus, plus, upper}
-use Rattle.hot.specs.Fields.{modeOf}
-use Rattle.hot.specs.Sources.{Named, SourceIs}
+use Rattle.source.specs.Fields.{modeOf}
+use Rattle.source.specs.Sources.{Named, SourceIs}
 use Rattle.hot.specs.Tells.{Added, Operates, Stored, Stores, Target, Tells, act, called, done, goes, idled, jumped, operated, passed, popped, pushed, returned, stay, stays, stop, stored, to}
 use Rattle.hot.specs.declared.Hot.{Hot}
-use Rattle.hot.specs.declared.source.Source.{Source}
+use Rattle.source.specs.declared.operand.Source.{Source}
 
 module _ (map rs : List ℕ) (size : length rs ≡ 16) (m : List ℕ) (h : Hot) (w : ℕ) where
   at-thirteen : (x : ℕ) → length (set rs 13 x) ≡ 16

@@ -20,11 +20,11 @@ use Rattle.pages.specs.declared.Width.the-variants.{Word}
 use Rattle.plan.specs.Result.{aluOf}
 use Rattle.status.specs.Flag.{holds}
 use Rattle.word.specs.Word.{minus, plus, upper}
-use Rattle.hot.specs.Fields.{RegRead, modeOf}
-use Rattle.hot.specs.Rows.{Computes, addCost, loadCost}
-use Rattle.hot.specs.Sources.{Named, Valued}
+use Rattle.source.specs.Fields.{RegRead, modeOf}
+use Rattle.source.specs.Rows.{Computes, addCost, loadCost}
+use Rattle.source.specs.Sources.{Named, Valued}
 use Rattle.hot.specs.declared.Hot.{Hot}
-use Rattle.hot.specs.declared.source.Source.{Source}
+use Rattle.source.specs.declared.operand.Source.{Source}
 
 -- to another address, in these states
 abbrev pub to : Hot → ℕ → ℕ → Hot

@@ -3,15 +3,15 @@ ghost use mathlib.Core.Path.{_≡_};
 ghost use Prim.Native.Nat.{_<_, _%_};
 ghost use lib.ListN.{length, set};
 ghost use Rattle.status.specs.Flag.{takenOn};
-ghost use Rattle.hot.specs.Rows.{addCost, loadCost};
-ghost use Rattle.hot.specs.Fields.{modeOf};
+ghost use Rattle.source.specs.Rows.{addCost, loadCost};
+ghost use Rattle.source.specs.Fields.{modeOf};
 ghost use Rattle.hot.specs.Tells as def;
 use crate::Hot;
-use crate::register::USP;
-use crate::source::Source;
 use alu::Alu;
 use decode::code;
 use pages::NONE;
+use source::Source;
+use source::USP;
 
 impl Hot {
     // To another address, in these states.

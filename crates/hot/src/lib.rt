@@ -1,7 +1,5 @@
 // One plain instruction on PC, the arithmetic flags and the registers alone. One that is not plain is not carried out here.
 mod arm;
-mod register;
-mod source;
 mod turn;
 
 // PC and the arithmetic flags. `cost` is the states of the last instruction, 0 where it was not carried out.

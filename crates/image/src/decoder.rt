@@ -6,6 +6,7 @@ ghost use Rattle.layout.specs.Entries.{tlbEntriesFrom};
 ghost use Rattle.layout.specs.Layout.{imageSize, regsAt, tlbAt};
 ghost use Rattle.endian.specs.Bytes.{wordsFrom};
 use endian::word_from;
+use fault::FaultRecord;
 use layout::CAUSE;
 use layout::CONDITION;
 use layout::ENTRIES;
@@ -25,7 +26,6 @@ use layout::VIOLATION;
 use machine::Condition;
 use machine::Ports;
 use machine::State;
-use status::FaultRecord;
 use status::Flags;
 
 fn condition_from(n: u8) -> Condition

@@ -2,7 +2,7 @@
 -- Assumes nothing.
 use Prim.Native.Nat.{ℕ}
 use Rattle.mmu.specs.declared.Fault.{Fault}
-use Rattle.status.specs.Fault.{recordAfter}
+use Rattle.fault.specs.Fault.{recordAfter}
 use Rattle.machine.specs.State.{withFault}
 use Rattle.machine.specs.declared.State.{State}
 

@@ -5,7 +5,7 @@ use mathlib.Core.List.{List}
 use Prim.Native.Nat.{ℕ}
 use Rattle.status.specs.Flag.{flagsWith}
 use Rattle.machine.specs.declared.Condition.{Condition}
-use Rattle.status.specs.declared.FaultRecord.{FaultRecord}
+use Rattle.fault.specs.declared.FaultRecord.{FaultRecord}
 use Rattle.status.specs.declared.Flags.{Flags}
 use Rattle.machine.specs.declared.Ports.{Ports}
 use Rattle.machine.specs.declared.State.{State}

@@ -10,9 +10,9 @@ mod run;
 mod stage;
 mod step;
 
+use fault::FaultRecord;
 use plan::Plan;
 pub use run::states_of;
-use status::FaultRecord;
 use status::Flags;
 
 // The condition of a machine.

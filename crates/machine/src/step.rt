@@ -7,9 +7,9 @@ use crate::State;
 use crate::Stepped;
 use crate::execution::event_of;
 use decode::Table;
+use fault::fault_number;
 use memory::make_store;
 use plan::Plan;
-use status::fault_number;
 use status::without;
 
 impl State {

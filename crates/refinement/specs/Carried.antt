@@ -14,12 +14,12 @@ use Rattle.pages.specs.Maps.{access-granted}
 use Rattle.pages.specs.declared.Width.{Width}
 use Rattle.pages.specs.declared.Width.the-variants.{Word}
 use Rattle.word.specs.Word.{plus}
-use Rattle.hot.specs.Fields.{RegRead, modeOf}
-use Rattle.hot.specs.Sources.{Named, Valued, by-frame, by-index, by-register, by-register-byte, by-second, field, held, loaded, second}
+use Rattle.source.specs.Fields.{RegRead, modeOf}
+use Rattle.source.specs.Sources.{Named, Valued, by-frame, by-index, by-register, by-register-byte, by-second, field, held, loaded, second}
 use Rattle.hot.specs.Tells.{Acts, Added, Tells, Turned}
 use Rattle.hot.specs.Tells.{called, compare, compute, divide, done, idled, jumped, load, none, one, operated, passed, popped, pushed, returned, shift, stop, stored}
 use Rattle.hot.specs.declared.Hot.{Hot}
-use Rattle.hot.specs.declared.source.Source.{Source}
+use Rattle.source.specs.declared.operand.Source.{Source}
 use Rattle.refinement.specs.Statement.{MapOf, hotState, Does}
 use Rattle.refinement.specs.Hot.{reg-hot}
 use Rattle.refinement.specs.Operands as operands

@@ -13,7 +13,7 @@ use Rattle.decode.specs.declared.DataAccess.the-variants as data-access
 use Rattle.decode.specs.declared.Flow.{Flow}
 use Rattle.decode.specs.declared.Flow.the-variants as flow
 use Rattle.decode.specs.declared.Privilege.the-variants.{Anyone}
-use Rattle.hot.specs.Rows.{Computes, add, addCost, adds, and, below-eight, cmp, div, loadCost, modulo, mul, or, shla, shll, shra, shrl, sub, xor}
+use Rattle.source.specs.Rows.{Computes, add, addCost, adds, and, below-eight, cmp, div, loadCost, modulo, mul, or, shla, shll, shra, shrl, sub, xor}
 use Rattle.hot.specs.Tells.{Stores, byte-indirect, direct, framed, indexed, indirect}
 
 -- a first byte is that of an instruction that anyone may use

@@ -54,7 +54,7 @@ use Rattle.refinement.specs.Statement.{carriedOut, did, hot, hotState, D
 use Rattle.refinement.specs.Hot.{reg-hot, sp-hot, sp-with-hot, with-hot}
 use Rattle.refinement.specs.Operands.{Addressed, Reached, Sourced}
 use Rattle.refinement.specs.Opens.{Opens, opens, opens-compute, opens-load}
-use Rattle.hot.specs.Rows.{Computes, add, addCost, adds, and, cmp, div, loadCost, modulo, mul, or, shla, shll, shra, shrl, sub, xor}
+use Rattle.source.specs.Rows.{Computes, add, addCost, adds, and, cmp, div, loadCost, modulo, mul, or, shla, shll, shra, shrl, sub, xor}
 use Rattle.hot.specs.declared.Hot.{Hot}
 
 -- the first word w leads with its operand to the instruction

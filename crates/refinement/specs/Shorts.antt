@@ -9,8 +9,8 @@ use lib.Dec.{ltb}
 use lib.IntN.{pos, _*ℤ_}
 use Rattle.word.specs.Signed.{signed4, word}
 use Rattle.word.specs.Word.{plus}
-use Rattle.hot.specs.Fields.{shortOf}
-use Rattle.hot.specs.Rows.{below-eight}
+use Rattle.source.specs.Fields.{shortOf}
+use Rattle.source.specs.Rows.{below-eight}
 
 below-sixteen : (P : ℕ → Type 0) → ((n : ℕ) → n < 8 → P n) → ((n : ℕ) → n < 8 → P (n + 8)) → (n : ℕ) → n < 16 → P n
 below-sixteen P low high n l = by (ltb n 8) refl

@@ -1,4 +1,3 @@
-pub mod Fault
 pub mod Flag
 pub mod Lines
 pub mod Saved

@@ -1,7 +1,8 @@
 // The interface for C: runs, cards and views on buffers that the caller lends.
 ghost use mathlib.Core.Path.{_≡_};
 ghost use Rattle.card.specs.Call.{cardCall};
-ghost use Rattle.direct.specs.Call.{runCall, viewCall};
+ghost use Rattle.direct.specs.Call.{runCall};
+ghost use Rattle.view.specs.Call.{viewCall};
 ghost use Rattle.refusal.specs.Call.{called};
 
 #[no_mangle]
@@ -32,5 +33,5 @@ pub extern "C" fn tac_card(
 pub extern "C" fn tac_view(memory: &[u8], image: &[u8], report: &mut [u8]) -> u64
     ensures { λ r. ⌜ called r (now (memory .exit)) (now (image .exit)) (now (report .exit)) ≡ viewCall (now (memory .entry)) (now (image .entry)) (now (report .entry)) ⌝ }
 {
-    direct::view(memory, image, report)
+    view::view(memory, image, report)
 }

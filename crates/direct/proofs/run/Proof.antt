@@ -3,7 +3,7 @@
 use mathlib.Core.Path.{refl, sym, _∙_}
 use Rattle.refusal.specs.Call.{called-is}
 use Rattle.direct.specs.Call.{runCall}
-use Rattle.direct.proofs.Valid.{passed}
+use Rattle.view.specs.Valid.{passed}
 use borrow.Author.Needs.{needs}
 use Rattle.direct.proofs.run.Statement.{statement}
 use Rattle.direct.proofs.run.Tie as tie

@@ -5,8 +5,8 @@ use native.Mathlib.Omega.{arith}
 use borrow.Author.Needs.{needs}
 use Rattle.plan.specs.Result.{aluOf}
 use Rattle.hot.specs.Arms.{compare-operates, cost-below, divided-operates, load-above, load-below, load-operates, next-operates, shift-operates}
-use Rattle.hot.specs.Rows.{add, adds, and, div, modulo, mul, or, shla, shll, shra, shrl, sub, xor}
-use Rattle.hot.specs.Fields.{modeOf}
+use Rattle.source.specs.Rows.{add, adds, and, div, modulo, mul, or, shla, shll, shra, shrl, sub, xor}
+use Rattle.source.specs.Fields.{modeOf}
 use Rattle.hot.specs.Tells.{stay}
 use Rattle.hot.proofs.Hot.operate.Statement.{statement}
 use Rattle.hot.proofs.Hot.operate.Tie as tie

@@ -5,7 +5,7 @@ use native.Mathlib.Omega.{arith}
 use borrow.Author.Needs.{needs}
 use Rattle.hot.specs.Tells.{byte-indirect, direct, framed, indexed, indirect, stop}
 use Rattle.hot.specs.Moves.{store-tells}
-use Rattle.hot.specs.Sources.{byte-named, direct-named, frame-named, indexed-named, indirect-named}
+use Rattle.source.specs.Sources.{byte-named, direct-named, frame-named, indexed-named, indirect-named}
 use Rattle.hot.proofs.Hot.store.Statement.{statement}
 use Rattle.hot.proofs.Hot.store.Tie as tie
 

@@ -1,7 +1,7 @@
 -- `hot::arm::load_cost` meets its contract.
 -- Assumes nothing.
 use borrow.Author.Tests.{eq-eqb, ne-eqb}
-use Rattle.hot.specs.Rows.{loadCost}
+use Rattle.source.specs.Rows.{loadCost}
 use Rattle.hot.proofs.arm.load_cost.Statement.{statement}
 use Rattle.hot.proofs.arm.load_cost.Tie as tie
 

@@ -1,0 +1,1 @@
+// A worked pair of calls, to which the theorem of `calls` is applied; no functions.

@@ -1,0 +1,88 @@
+// The operand stage: what each mode names, and its value.
+ghost use mathlib.Core.Path.{_≡_};
+ghost use Prim.Native.Nat.{_%_, _<_};
+ghost use lib.ListN.{length};
+ghost use Rattle.decode.specs.Decode.{rxField};
+ghost use Rattle.source.specs.Fields.{IndexedPlace, shortOf, framePlace};
+ghost use Rattle.source.specs.Sources.{SourceIs};
+use crate::registers::FP;
+use crate::registers::register;
+use pages::NONE;
+use pages::Width;
+use pages::fetch;
+use pages::read;
+use word::plus;
+
+// An operand: its value, the address of the following instruction, and the states with ADD.
+pub struct Source {
+    pub value: u32,
+    pub next: u16,
+    pub cost: u32,
+}
+
+// The four-bit immediate.
+fn short(w: u16) -> u16
+    ensures { λ r. ⌜ r ≡ shortOf (rxField w) ⌝ }
+{
+    let d = w % 16;
+    if d < 8 { d } else { d + 65520 }
+}
+
+// FP plus twice D4.
+pub fn frame_place(regs: &[u16; 16], w: u16) -> u16
+    ensures { λ r. ⌜ r ≡ framePlace (now (regs .entry)) w ⌝ }
+{
+    let d = short(w);
+    plus(regs[FP], plus(d, d))
+}
+
+// A displacement plus a register.
+pub fn indexed_place(regs: &[u16; 16], d: u32, w: u16) -> u32
+    ensures { λ r. ⌜ (r < 65536 → IndexedPlace (now (regs .entry)) d w r) ⌝ }
+{
+    let x = register(regs, w);
+    if NONE <= d {
+        return NONE;
+    }
+    if NONE <= x {
+        return NONE;
+    }
+    (d + x) % 65536
+}
+
+fn operand(value: u32, next: u16, cost: u32) -> Source
+    ensures { λ r. ⌜ r ≡ record { value = value; next = next; cost = cost } ⌝ }
+{
+    Source { value, next, cost }
+}
+
+// The operand of LD and of ADD to SHRL, PC being even.
+pub fn source_of(regs: &[u16; 16], map: &[u16; 256], mem: &[u8], pc: u16, w: u16) -> Source
+    requires { ⌜ (length (now mem) ≡ 65536) × (pc % 2 ≡ 0) ⌝ }
+    ensures { λ r. ⌜ SourceIs (now (regs .entry)) (now (map .entry)) (now (mem .entry)) pc w r ⌝ }
+{
+    let after = plus(pc, 2);
+    let beyond = plus(pc, 4);
+    let mode = w / 256 % 8;
+    match mode {
+        0 => operand(
+            read(map, mem, Width::Word, fetch(map, mem, after)),
+            beyond,
+            7,
+        ),
+        1 => {
+            let a = indexed_place(regs, fetch(map, mem, after), w);
+            operand(read(map, mem, Width::Word, a), beyond, 7)
+        }
+        2 => operand(fetch(map, mem, after), beyond, 5),
+        3 => operand(
+            read(map, mem, Width::Word, frame_place(regs, w) as u32),
+            after,
+            7,
+        ),
+        4 => operand(register(regs, w), after, 5),
+        5 => operand(short(w) as u32, after, 4),
+        6 => operand(read(map, mem, Width::Word, register(regs, w)), after, 6),
+        _ => operand(read(map, mem, Width::Byte, register(regs, w)), after, 6),
+    }
+}

@@ -1,0 +1,57 @@
+-- `view::view` meets its contract.
+-- Assumes nothing.
+use mathlib.Core.Path.{refl, sym, _∙_}
+use Rattle.image.specs.Decode.{stateFrom}
+use Rattle.refusal.specs.Call.{called-is}
+use Rattle.view.specs.Call.{viewCall}
+use Rattle.view.specs.Valid.{no-step, passed}
+use borrow.Author.Needs.{needs}
+use Rattle.view.proofs.view.Statement.{statement}
+use Rattle.view.proofs.view.Tie as tie
+
+validate-requires : tie.Need-validate-requires
+validate-requires c κs = search needs
+
+enum-known-refusal : tie.Need-enum-known-refusal
+enum-known-refusal c = search needs
+
+answer-of-requires : tie.Need-answer-of-requires
+answer-of-requires c κs = search needs
+
+enum-told : tie.Need-enum-told
+enum-told c = search needs
+
+view-valid-requires : tie.Need-view-valid-requires
+view-valid-requires c κs =
+    let p = passed _ _ _ (sym (c .before .before .before .validate .ensures) ∙ c .before .enum-told .given .1) in
+    (p .size, p .room)
+
+returns : tie.Need-returns
+unfolding viewCall
+returns c =
+    rw (← c .before .before .before .before .validate .ensures, c .before .before .refusal .given .1) (called-is _ (c .answer-of .ensures) refl refl refl)
+
+same-length : tie.Need-same-length
+same-length c = search needs
+
+returns-2 : tie.Need-returns-2
+unfolding viewCall
+returns-2 c =
+    let told = c .before .before .before .before in
+    let checked = told .before .before in
+    let start = checked .before .before .before .before in
+    rw (← checked .validate .ensures, told .enum-told .given .1, no-step (stateFrom (start .args .image .now)) (start .args .memory .now))
+    (called-is _ refl refl refl (c .before .before .view-valid .ensures))
+
+pub view-spec : {M : Type 1} → statement M
+view-spec =
+    tie.close
+    (tie.spec
+    validate-requires
+    enum-known-refusal
+    answer-of-requires
+    enum-told
+    view-valid-requires
+    returns
+    same-length
+    returns-2)

@@ -1,0 +1,69 @@
+// A view: the report of a run of no step, on buffers that the caller lends.
+ghost use mathlib.Core.List.{_++_};
+ghost use mathlib.Core.Path.{_≡_};
+ghost use Prim.Native.Nat.{_≤_};
+ghost use lib.ListN.{drop, length};
+ghost use Rattle.image.specs.Decode.{stateFrom};
+ghost use Rattle.layout.specs.Layout.{imageSize};
+ghost use Rattle.machine.specs.Flag.{flagOf};
+ghost use Rattle.machine.specs.Run.{stoppedEnding};
+ghost use Rattle.refusal.specs.Call.{called};
+ghost use Rattle.report.specs.Layout.{reportSize};
+ghost use Rattle.report.specs.Report.{reportOf};
+ghost use Rattle.view.specs.Call as def;
+use machine::Condition;
+use machine::Ending;
+use refusal::Validity;
+use report::REPORT;
+
+// The tests of a run and of a view.
+pub fn validate(memory: usize, image: &[u8], report: usize) -> Validity
+    ensures { λ r. ⌜ r ≡ def.runValid memory (now (image .entry)) report ⌝ }
+{
+    refusal::and_then(
+        layout::validate(memory, image),
+        refusal::report_fits(report, REPORT),
+    )
+}
+
+// How a run of no step ends.
+fn stopped_ending(condition: Condition) -> Ending
+    ensures { λ r. ⌜ r ≡ stoppedEnding condition ⌝ }
+{
+    match condition {
+        Condition::Running => Ending::Spent,
+        Condition::Halted => Ending::Halted,
+        Condition::Lost => Ending::Lost,
+    }
+}
+
+// A view of an image that is valid.
+fn view_valid(image: &[u8], report: &mut [u8])
+    requires { ⌜ (length (now image) ≡ imageSize) × (reportSize ≤ length (now report)) ⌝ }
+    ensures { λ _. ⌜ now (report .exit) ≡ reportOf (stoppedEnding ((stateFrom (now (image .entry))) .condition)) ((stateFrom (now (image .entry))) .pc) (flagOf (stateFrom (now (image .entry)))) 0 0 ++ drop reportSize (now (report .entry)) ⌝ }
+{
+    let state = image::read_image(image);
+    let condition = state.condition;
+    let flags = state.flags;
+    report::write_report(
+        report,
+        stopped_ending(condition),
+        state.pc,
+        flags.word(),
+        0,
+        0,
+    );
+}
+
+// A view: the answer of `tac_view`.
+pub fn view(memory: &[u8], image: &[u8], report: &mut [u8]) -> u64
+    ensures { λ r. ⌜ called r (now (memory .exit)) (now (image .exit)) (now (report .exit)) ≡ def.viewCall (now (memory .entry)) (now (image .entry)) (now (report .entry)) ⌝ }
+{
+    match validate(memory.len(), image, report.len()) {
+        Validity::Refused(refusal) => refusal::answer_of(refusal),
+        Validity::Good => {
+            view_valid(image, report);
+            REPORT as u64
+        }
+    }
+}
