@@ -11,7 +11,7 @@ use report::REPORT;
 pub fn validate(memory: usize, image: &[u8], card: &[u8], report: usize) -> CallValidity
     ensures { λ r. ⌜ r ≡ record { validity = cardValid memory (now (image .entry)) (now (card .entry)) report; needed = reportSize * runsIn ((readingOf (now (card .entry))) .commands) } ⌝ }
 {
-    let counted = command::count(card);
+    let counted = tally::count(card);
     let alone = counted.validity;
     let needed = REPORT * counted.runs;
     let machine = layout::validate(memory, image);

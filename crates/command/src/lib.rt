@@ -1,11 +1,8 @@
-// The commands of a bench card: what stands at a position of a card, and the tests of a card by itself.
-mod counts;
+// The commands of a bench card: what stands at a position of a card.
 mod parser;
 
-pub use counts::count;
 pub use parser::parse;
 use refusal::Refusal;
-use refusal::Validity;
 
 // A command of a card, with its operands.
 pub enum Command {
@@ -33,10 +30,4 @@ pub enum Parsed {
     Next(Command, usize),
     // A bad command, with its place.
     Bad(Refusal),
-}
-
-// The tests of a card by itself, and the number of its runs.
-pub struct CardValidity {
-    pub validity: Validity,
-    pub runs: usize,
 }

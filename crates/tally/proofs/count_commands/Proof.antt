@@ -1,14 +1,14 @@
--- `command::counts::count_commands` meets its contract.
+-- `tally::count_commands` meets its contract.
 -- Assumes nothing.
 use Prim.Native.Nat.{_-_}
 use native.Mathlib.Omega.{arith}
 use lib.ListN.{length}
 use borrow.Author.Needs.{needs}
 use Rattle.command.specs.Laws.{one-at-most}
-use Rattle.command.proofs.Counting.{Counting, ended, goes-on, start}
+use Rattle.tally.proofs.Counting.{Counting, ended, goes-on, start}
 use Rattle.command.specs.Turns.{Turn, at-bad, at-end, at-next, falls}
-use Rattle.command.proofs.counts.count_commands.Statement.{statement}
-use Rattle.command.proofs.counts.count_commands.Tie as tie
+use Rattle.tally.proofs.count_commands.Statement.{statement}
+use Rattle.tally.proofs.count_commands.Tie as tie
 
 abbrev Inv-loop : tie.InvT-loop
 Inv-loop card at₀ runs₀ at runs = Counting card at runs

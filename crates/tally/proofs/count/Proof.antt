@@ -1,12 +1,12 @@
--- `command::counts::count` meets its contract.
+-- `tally::count` meets its contract.
 -- Assumes nothing.
 use mathlib.Core.Path.{refl}
 use native.Mathlib.Omega.{arith}
 use borrow.Author.Needs.{needs}
 use borrow.Author.Tests.{le-leb, lt-leb}
 use Rattle.command.specs.Card.{readingOf, runsIn}
-use Rattle.command.proofs.counts.count.Statement.{statement}
-use Rattle.command.proofs.counts.count.Tie as tie
+use Rattle.tally.proofs.count.Statement.{statement}
+use Rattle.tally.proofs.count.Tie as tie
 
 count-commands-requires : tie.Need-count-commands-requires
 count-commands-requires c κs = search needs

@@ -1,15 +1,20 @@
-// The commands of a card, counted.
+// The tests of a card by itself, and its runs counted.
 ghost use mathlib.Core.Path.{_≡_};
 ghost use Prim.Native.Nat.{_≤_};
 ghost use lib.ListN.{length};
 ghost use Rattle.command.specs.Card as def;
-use crate::CardValidity;
-use crate::Command;
-use crate::Parsed;
-use crate::parser::parse;
+use command::Command;
+use command::Parsed;
+use command::parse;
 use refusal::Cause;
 use refusal::Refusal;
 use refusal::Validity;
+
+// The tests of a card by itself, and the number of its runs.
+pub struct CardValidity {
+    pub validity: Validity,
+    pub runs: usize,
+}
 
 // The most bytes that a card has.
 const CARD: usize = 4096;

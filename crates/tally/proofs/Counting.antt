@@ -7,11 +7,11 @@ use native.Mathlib.Nat.{add-zero}
 use native.Mathlib.Omega.{arith}
 use lib.ListN.{length}
 use Rattle.refusal.specs.declared.Validity.{Validity}
 use Rattle.command.specs.Card.{cardSize, isRun, readFrom, reading, runsIn}
 use Rattle.command.specs.Laws.{one-at-most}
 use Rattle.command.specs.declared.Command.{Command}
-use Rattle.command.specs.declared.CardValidity.{CardValidity}
+use Rattle.tally.specs.declared.CardValidity.{CardValidity}
 use Rattle.command.specs.Turns.{Turn}
 
 abbrev validityWith : Validity → ℕ → CardValidity
 validityWith v n = record { validity = v; runs = n }
