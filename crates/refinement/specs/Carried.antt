@@ -24,7 +24,8 @@ use Rattle.refinement.specs.Statement.{MapOf, hotState, Does}
 use Rattle.refinement.specs.Hot.{reg-hot}
 use Rattle.refinement.specs.Operands as operands
 use Rattle.refinement.specs.Operands.{Addressed, Second, Sourced, memory-read}
-use Rattle.refinement.specs.Operations.{RxFine, call-does, compare-does, divide-does, jump-does, load-does, next-does, no-does, pass-does, pop-does, push-does, ret-does, rx-low, rx-unused, shift-does, store-does}
+use Rattle.refinement.specs.Operations.{RxFine, rx-low, rx-unused}
+use Rattle.refinement.specs.Operations.{call-does, compare-does, divide-does, jump-does, load-does, next-does, no-does, pass-does, pop-does, push-does, ret-does, shift-does, store-does}
 use Rattle.refinement.specs.Opens.{opens-call, opens-jump, opens-store}
 use Rattle.refinement.specs.Shorts.{frame-word, short-word}
 
