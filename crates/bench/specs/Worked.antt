@@ -26,7 +26,7 @@ use Rattle.plan.specs.End.{endOf}
 use Rattle.machine.specs.Run.{runFrom, runOf}
 use Rattle.machine.specs.Step.{commit, stepOf}
 use Rattle.transfer.specs.Transfer.{transferOf}
-use Rattle.mmu.specs.Access.{byteAccess, wordAccess}
+use Rattle.mmu.specs.Access.{accessOf, alignedAccess}
 use Rattle.memory.specs.Memory.{stored}
 use Rattle.refusal.specs.Refusal.{reportFits}
 use Rattle.report.specs.Report.{reportOf}
@@ -50,6 +50,6 @@ unfolding benchOf cardCall filledPart cardValid readAtMost readFrom readingOf ru
     machineValid goodImage flagGood pendingGood allZeros zerosGood reportFits stateFrom conditionFrom
     listingOf runsText linesOf lineOf endingText numberText decimalOf hexOf reportOf wordBytes
     runOf runFrom commit stepOf afterOperation bodyOf eventOf enterOf pushed flagWord
-    fieldsBad firstOf hasSecond usesRx costOf eight inModes inRows modeBits opcodeOf row rows single statesAt byteAccess wordAccess stored
+    fieldsBad firstOf hasSecond usesRx costOf eight inModes inRows modeBits opcodeOf row rows single statesAt accessOf alignedAccess stored
     needOf transferOf endOf interruptIn planFetch planFirst planOf planOperand planSecond
 worked-listing = refl

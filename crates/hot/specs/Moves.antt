@@ -11,8 +11,8 @@ use Rattle.decode.specs.Decode.{rdField}
 use Rattle.jump.specs.Jump.{conditionOf}
 use Rattle.mmu.specs.declared.Right.the-variants.{Execute, Read}
 use Rattle.pages.specs.Accesses.{Reads, Wrote}
-use Rattle.pages.specs.declared.Width.{Width}
-use Rattle.pages.specs.declared.Width.the-variants.{Word}
+use Rattle.word.specs.declared.Width.{Width}
+use Rattle.word.specs.declared.Width.the-variants.{Word}
 use Rattle.status.specs.Flag.{holds}
 use Rattle.word.specs.Word.{minus, plus, upper}
 use Rattle.source.specs.Fields.{modeOf}

@@ -11,7 +11,6 @@ use decode::code;
 use mmu::Right;
 use pages::NONE;
 use pages::NOWHERE;
-use pages::Width;
 use pages::fetch;
 use pages::place;
 use pages::read;
@@ -24,6 +23,7 @@ use source::indexed_place;
 use source::register;
 use source::source_of;
 use source::wide;
+use word::Width;
 use word::minus;
 use word::plus;
 

@@ -26,7 +26,7 @@ use Rattle.machine.specs.Step.{commit, stepOf}
 use Rattle.status.specs.Lines.{without}
 use Rattle.transfer.specs.Transfer.{byAccess, loaded, readSecond, transferAt, transferOf}
 use Rattle.transfer.specs.declared.Need.{Need}
-use Rattle.transfer.specs.declared.Need.the-variants.{ReadByte, ReadTwo, ReadWord, Value, WriteByte, WriteWord}
+use Rattle.transfer.specs.declared.Need.the-variants as need
 use Rattle.plan.specs.declared.Operation.{Operation}
 use Rattle.plan.specs.declared.Plan.{Plan}
 use Rattle.plan.specs.declared.Plan.the-variants.{Interrupt, Perform, Trap, Violation}
@@ -35,10 +35,10 @@ use Rattle.machine.specs.declared.State.{State}
 use Rattle.transfer.specs.declared.Transfer.{Transfer}
 use Rattle.transfer.specs.declared.Transfer.the-variants as transfer
 use Rattle.transfer.specs.declared.Transferred.{Transferred}
-use Rattle.mmu.specs.Access.{byteAccess, wordAccess}
+use Rattle.mmu.specs.Access.{accessOf}
 use Rattle.mmu.specs.Answers.{faultNumber}
-use Rattle.mmu.specs.Laws.{AccessCases, access-keeps, word-cases}
-use Rattle.memory.specs.Memory.{byteAt, wordAt}
+use Rattle.mmu.specs.Laws.{AccessCases, access-cases, access-keeps}
+use Rattle.memory.specs.Memory.{readAt, wordAt}
 use Rattle.mmu.specs.declared.Access.{Access}
 use Rattle.mmu.specs.declared.Access.the-variants as access
 use Rattle.mmu.specs.declared.Accessed.{Accessed}
@@ -47,7 +47,9 @@ use Rattle.mmu.specs.declared.Right.the-variants.{Execute, Read, Write}
 use Rattle.memory.specs.declared.Store.the-variants as store
 use Rattle.word.specs.Cases.{either}
 use Rattle.word.specs.Word.{halves, plus, upper}
-use Rattle.isolation.specs.Rights.{ByteIn, byte-in, on, rights-marked, user-after, word-in}
+use Rattle.word.specs.declared.Width.{Width}
+use Rattle.word.specs.declared.Width.the-variants.{Byte, Word}
+use Rattle.isolation.specs.Rights.{ByteIn, BytesIn, access-in, on, rights-marked, user-after}
 use Rattle.isolation.specs.OneStep.{Confidentiality, Indistinct, endingOf}
 use Rattle.isolation.specs.Statement.{UserMode, atHandler, hasRight, visible}
 use Rattle.isolation.specs.Stores.{pushed-agree, stored-agree}
@@ -82,13 +84,14 @@ module _ (m m′ : List ℕ) where
     here : (right : Right) → Sees right → {p : ℕ} → ByteIn tlb right p → getD m p 0 ≡ getD m′ p 0
     here right s {p} b = agree p (b .inside) (seen tlb (upper p) right s (b .allowed))
 
-    byte-same : (right : Right) → Sees right → (a p : ℕ) → (byteAccess t tlb right a) .access ≡ access.At p → byteAt m p ≡ byteAt m′ p
-    byte-same right s a p q = here right s (byte-in t e tlb right a p q)
+    covered : (width : Width) (right : Right) → Sees right → (p : ℕ) → BytesIn width tlb right p → readAt width m p ≡ readAt width m′ p
+    covered Byte right s p b = here right s b
+    covered Word right s p b = ap₂ halves (here right s (b .0)) (here right s (b .1))
 
-    word-same : (right : Right) → Sees right → (a p : ℕ) → (wordAccess t tlb right a) .access ≡ access.At p → wordAt m p ≡ wordAt m′ p
-    word-same right s a p q =
-        let w : ByteIn tlb right p × ByteIn tlb right (plus p 1) = word-in t e tlb right a p q in
-        ap₂ halves (here right s (w .0)) (here right s (w .1))
+    read-same :
+        (width : Width) (right : Right) → Sees right → (a p : ℕ) → (accessOf width t tlb right a) .access ≡ access.At p
+        → readAt width m p ≡ readAt width m′ p
+    read-same width right s a p q = covered width right s p (access-in t e tlb right a p width q)
 
   -- ---- the data access
 
@@ -106,23 +109,20 @@ module _ (m m′ : List ℕ) where
         (x : Access) (tlb : List ℕ) → Agree tlb → (a : ℕ) → ((p : ℕ) → x ≡ access.At p → wordAt m p ≡ wordAt m′ p)
         → readSecond x t tlb m a ≡ readSecond x t tlb m′ a
     two-same (access.At at) tlb agree a first =
-        by-same (wordAccess t tlb Read (plus a 2)) (plus a 2) _ _
-        (λ p q. ap₂ (λ (v w : ℕ). transfer.Done v w store.Nothing) (first at refl) (word-same t e tlb agree Read tt (plus a 2) p q))
+        by-same (accessOf Word t tlb Read (plus a 2)) (plus a 2) _ _
+        (λ p q. ap₂ (λ (v w : ℕ). transfer.Done v w store.Nothing) (first at refl) (read-same t e tlb agree Word Read tt (plus a 2) p q))
     two-same (access.Fails why) tlb agree a first = refl
 
     transfer-same : (need : Need) (tlb : List ℕ) → Agree tlb → (value : ℕ) → transferOf need t tlb m value ≡ transferOf need t tlb m′ value
     unfolding transferOf
-    transfer-same (Value v) tlb agree value = refl
-    transfer-same (ReadWord a) tlb agree value =
-        by-same (wordAccess t tlb Read a) a _ _ (λ p q. ap loaded (word-same t e tlb agree Read tt a p q))
-    transfer-same (ReadByte a) tlb agree value =
-        by-same (byteAccess t tlb Read a) a _ _ (λ p q. ap loaded (byte-same t e tlb agree Read tt a p q))
-    transfer-same (ReadTwo a) tlb agree value =
-        let x : Accessed = wordAccess t tlb Read a in
-        two-same (x .access) (x .tlb) (agree-after (word-cases t tlb Read a) agree) a
-        (λ p q. word-same t e tlb agree Read tt a p q)
-    transfer-same (WriteWord a) tlb agree value = refl
-    transfer-same (WriteByte a) tlb agree value = refl
+    transfer-same (need.Value v) tlb agree value = refl
+    transfer-same (need.Read width a) tlb agree value =
+        by-same (accessOf width t tlb Read a) a _ _ (λ p q. ap loaded (read-same t e tlb agree width Read tt a p q))
+    transfer-same (need.ReadTwo a) tlb agree value =
+        let x : Accessed = accessOf Word t tlb Read a in
+        two-same (x .access) (x .tlb) (agree-after (access-cases Word t tlb Read a) agree) a
+        (λ p q. read-same t e tlb agree Word Read tt a p q)
+    transfer-same (need.Write width a) tlb agree value = refl
 
   -- ---- the stages of a plan
 
@@ -148,8 +148,8 @@ module _ (m m′ : List ℕ) where
           (x : Access) → (fetched st a) .access ≡ x
           → throughAccess x (after st (fetched st a)) a f ≡ throughAccess x (after st (fetched st a)) a f′
       by (access.At p) q =
-          h (user-after st ((fetched st a) .tlb) u) (agree-after (word-cases (translates st) (st .tlb) Execute a) agree) p
-          (word-same (translates st) (on st u) (st .tlb) agree Execute tt a p q)
+          h (user-after st ((fetched st a) .tlb) u) (agree-after (access-cases Word (translates st) (st .tlb) Execute a) agree) p
+          (read-same (translates st) (on st u) (st .tlb) agree Word Execute tt a p q)
       by (access.Fails why) q = refl
 
   second-same : (st : State) → UserMode st → Agree (st .tlb) → (shape : Shape) → planSecond st m shape ≡ planSecond st m′ shape

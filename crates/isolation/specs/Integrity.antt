@@ -35,7 +35,7 @@ use Rattle.transfer.specs.Transfer.{readSecond, transferAt, transferOf}
 use Rattle.machine.specs.declared.Condition.{Condition}
 use Rattle.machine.specs.declared.Event.the-variants as event
 use Rattle.transfer.specs.declared.Need.{Need}
-use Rattle.transfer.specs.declared.Need.the-variants.{ReadByte, ReadTwo, ReadWord, Value, WriteByte, WriteWord}
+use Rattle.transfer.specs.declared.Need.the-variants.{Read, ReadTwo, Value, Write}
 use Rattle.plan.specs.declared.Operation.{Operation}
 use Rattle.plan.specs.declared.Plan.{Plan}
 use Rattle.plan.specs.declared.Plan.the-variants.{Interrupt, Perform, Trap, Violation}
@@ -44,22 +44,23 @@ use Rattle.machine.specs.declared.State.{State}
 use Rattle.transfer.specs.declared.Transfer.{Transfer}
 use Rattle.transfer.specs.declared.Transfer.the-variants as transfer
 use Rattle.transfer.specs.declared.Transferred.{Transferred}
-use Rattle.mmu.specs.Access.{byteAccess, wordAccess}
+use Rattle.mmu.specs.Access.{accessOf}
 use Rattle.mmu.specs.Answers.{faultNumber}
 use Rattle.mmu.specs.Entry.{marked}
-use Rattle.mmu.specs.Laws.{access-keeps, word-cases}
+use Rattle.mmu.specs.Laws.{access-cases, access-keeps}
 use Rattle.mmu.specs.declared.Access.{Access}
 use Rattle.mmu.specs.declared.Access.the-variants as access
 use Rattle.mmu.specs.declared.Right.{Right}
-use Rattle.mmu.specs.declared.Right.the-variants.{Execute, Read, Write}
+use Rattle.mmu.specs.declared.Right.the-variants as right
 use Rattle.memory.specs.declared.Store.{Store}
 use Rattle.memory.specs.declared.Store.the-variants as store
 use Rattle.word.specs.Cases.{either}
 use Rattle.word.specs.Word.{plus}
-use Rattle.isolation.specs.Rights.{byte-in, on, rights-marked, word-in}
+use Rattle.word.specs.declared.Width.the-variants.{Word}
+use Rattle.isolation.specs.Rights.{access-in, on, rights-marked}
 use Rattle.isolation.specs.OneStep.{Confined, Integrity, Keeps, SameRights}
 use Rattle.isolation.specs.Statement.{UserMode}
-use Rattle.isolation.specs.Stores.{Spares, pushed-kept, pushed-long, spares-byte, spares-nothing, spares-word}
+use Rattle.isolation.specs.Stores.{Spares, pushed-kept, pushed-long, spares-at, spares-nothing}
 
 -- ---- states that keep what an instruction keeps
 
@@ -137,25 +138,21 @@ module _ (st : State) where
   at-in (access.Fails why) a f h = tt
 
   second-in : (x : Access) (t : Bool) (tlb m : List ℕ) (a : ℕ) → TransferIn ((readSecond x t tlb m a) .transfer)
-  second-in (access.At p) t tlb m a = at-in ((wordAccess t tlb Read (plus a 2)) .access) (plus a 2) _ (λ _ _. spares-nothing (st .tlb))
+  second-in (access.At p) t tlb m a = at-in ((accessOf Word t tlb right.Read (plus a 2)) .access) (plus a 2) _ (λ _ _. spares-nothing (st .tlb))
   second-in (access.Fails why) t tlb m a = tt
 
   module _ (t : Bool) (e : t ≡ true) (tlb m : List ℕ) (same : SameRights (st .tlb) tlb) (value : ℕ) where
     back : (s : Store) → Spares tlb s → Spares (st .tlb) s
-    back s h m a w = h m a (same Write _ ∙ w)
+    back s h m a w = h m a (same right.Write _ ∙ w)
 
     transfer-in : (need : Need) → TransferIn ((transferOf need t tlb m value) .transfer)
     unfolding transferOf
     transfer-in (Value v) = spares-nothing (st .tlb)
-    transfer-in (ReadWord a) = at-in ((wordAccess t tlb Read a) .access) a _ (λ _ _. spares-nothing (st .tlb))
-    transfer-in (ReadByte a) = at-in ((byteAccess t tlb Read a) .access) a _ (λ _ _. spares-nothing (st .tlb))
-    transfer-in (ReadTwo a) = second-in ((wordAccess t tlb Read a) .access) t ((wordAccess t tlb Read a) .tlb) m a
-    transfer-in (WriteWord a) =
-        at-in ((wordAccess t tlb Write a) .access) a _
-        (λ p q. back (store.Word p value) (spares-word tlb p value (word-in t e tlb Write a p q)))
-    transfer-in (WriteByte a) =
-        at-in ((byteAccess t tlb Write a) .access) a _
-        (λ p q. back (store.Byte p value) (spares-byte tlb p value (byte-in t e tlb Write a p q)))
+    transfer-in (Read width a) = at-in ((accessOf width t tlb right.Read a) .access) a _ (λ _ _. spares-nothing (st .tlb))
+    transfer-in (ReadTwo a) = second-in ((accessOf Word t tlb right.Read a) .access) t ((accessOf Word t tlb right.Read a) .tlb) m a
+    transfer-in (Write width a) =
+        at-in ((accessOf width t tlb right.Write a) .access) a _
+        (λ p q. back (store.At width p value) (spares-at tlb width p value (access-in t e tlb right.Write a p width q)))
 
   rest-in :
       (t : Transfer) → TransferIn t → (s : State) (ins : Instruction) → plain (ins .code) ≡ true → (held address following : ℕ)
@@ -194,7 +191,7 @@ module _ (st : State) where
     ways : Ways m Near PlannedIn
     ways =
         record {
-          fetch = λ s a n. near-tlb s _ n (access-keeps (SameRights (st .tlb)) mark (word-cases (translates s) (s .tlb) Execute a) (n .rights));
+          fetch = λ s a n. near-tlb s _ n (access-keeps (SameRights (st .tlb)) mark (access-cases Word (translates s) (s .tlb) right.Execute a) (n .rights));
           interrupt = λ s n. record { near = n; plan = tt };
           first = λ s n why. record { near = n; plan = tt };
           second = λ s n why. record { near = n; plan = tt };

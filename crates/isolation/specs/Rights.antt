@@ -10,15 +10,17 @@ use lib.ListN.{getD, set}
 use Rattle.machine.specs.Plan.{translates}
 use Rattle.machine.specs.State.{withTlb}
 use Rattle.machine.specs.declared.State.{State}
-use Rattle.mmu.specs.Access.{byteAccess, wordAccess}
+use Rattle.mmu.specs.Access.{accessOf}
 use Rattle.mmu.specs.Entry.{frameIn, gives, marked, valid}
 use Rattle.mmu.specs.Found.{held-valid}
-use Rattle.mmu.specs.Laws.{AccessCases, byte-cases, direct, fails, granted-lower, served, word-cases, word-even}
+use Rattle.mmu.specs.Laws.{AccessCases, access-cases, direct, fails, granted-lower, served, word-even}
 use Rattle.mmu.specs.Marks.{Like, like-frame, like-gives, like-valid, marked-like}
 use Rattle.mmu.specs.declared.Access.the-variants.{At}
 use Rattle.mmu.specs.declared.Accessed.{Accessed}
 use Rattle.mmu.specs.declared.Right.{Right}
 use Rattle.word.specs.Word.{halves, lower, plus, upper}
+use Rattle.word.specs.declared.Width.{Width}
+use Rattle.word.specs.declared.Width.the-variants.{Byte, Word}
 use Rattle.isolation.specs.OneStep.{SameRights}
 use Rattle.isolation.specs.Statement.{UserMode, hasRight}
 
@@ -55,6 +57,11 @@ pub record ByteIn (tlb : List ℕ) (right : Right) (p : ℕ) : Type 0 where
   pub inside : p < 65536
   pub allowed : hasRight tlb right (upper p) ≡ true
 
+-- each byte of an access to p
+abbrev pub BytesIn : Width → List ℕ → Right → ℕ → Type 0
+BytesIn Byte tlb right p = ByteIn tlb right p
+BytesIn Word tlb right p = ByteIn tlb right p × ByteIn tlb right (plus p 1)
+
 module _ (on : Bool) (t : on ≡ true) (tlb : List ℕ) (right : Right) (a p : ℕ) where
   granted-in : {x : Accessed} → AccessCases on tlb right a x → x .access ≡ At p → ByteIn tlb right p
   granted-in (direct off e) q = absurd (true≢false (sym t ∙ off))
@@ -64,14 +71,11 @@ module _ (on : Bool) (t : on ≡ true) (tlb : List ℕ) (right : Right) (a p : �
       record { inside = omega arith; allowed = rw frame (shows tlb k right (held-valid (upper a) (getD tlb k 0) h) g) }
   granted-in (fails why e) q = let z : _≡_ {A = ℕ} 0 1 = cc in absurd (omega arith)
 
-  pub byte-in : (byteAccess on tlb right a) .access ≡ At p → ByteIn tlb right p
-  byte-in q = granted-in (byte-cases on tlb right a) q
-
-  -- both bytes of a word
-  pub word-in : (wordAccess on tlb right a) .access ≡ At p → ByteIn tlb right p × ByteIn tlb right (plus p 1)
-  word-in q =
-      let first : ByteIn tlb right p = granted-in (word-cases on tlb right a) q in
+  pub access-in : (width : Width) → (accessOf width on tlb right a) .access ≡ At p → BytesIn width tlb right p
+  access-in Byte q = granted-in (access-cases Byte on tlb right a) q
+  access-in Word q =
+      let first : ByteIn tlb right p = granted-in (access-cases Word on tlb right a) q in
       let in-range : p < 65536 = first .inside in
-      let even : p % 2 ≡ 0 = omega (arith, word-even on tlb right a p q, granted-lower (word-cases on tlb right a) q) in
+      let even : p % 2 ≡ 0 = omega (arith, word-even on tlb right a p q, granted-lower (access-cases Word on tlb right a) q) in
       let frame : (p + 1) % 65536 / 256 ≡ p / 256 = omega arith in
       (first, record { inside = omega arith; allowed = rw frame (first .allowed) })

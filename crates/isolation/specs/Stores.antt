@@ -16,9 +16,11 @@ use Rattle.status.specs.declared.Flags.{Flags}
 use Rattle.memory.specs.Memory.{storeWord, stored}
 use Rattle.mmu.specs.declared.Right.the-variants.{Write}
 use Rattle.memory.specs.declared.Store.{Store}
-use Rattle.memory.specs.declared.Store.the-variants.{Byte, Nothing, Word}
+use Rattle.memory.specs.declared.Store.the-variants.{At, Nothing}
 use Rattle.word.specs.Word.{lower, minus, plus, upper}
-use Rattle.isolation.specs.Rights.{ByteIn}
+use Rattle.word.specs.declared.Width.{Width}
+use Rattle.word.specs.declared.Width.the-variants.{Byte, Word}
+use Rattle.isolation.specs.Rights.{ByteIn, BytesIn}
 use Rattle.isolation.specs.Statement.{Pushed, hasRight}
 
 -- ---- lengths
@@ -52,8 +54,8 @@ word-agree m m′ i v a l e =
 pub stored-agree : (s : Store) (m m′ : List ℕ) (a : ℕ) → length m ≡ length m′ → Agree a m m′ → Agree a (stored s m) (stored s m′)
 unfolding stored
 stored-agree Nothing m m′ a l e = e
-stored-agree (Word i v) m m′ a l e = word-agree m m′ i v a l e
-stored-agree (Byte i v) m m′ a l e = set-agree m m′ i (lower v) a l e
+stored-agree (At Byte i v) m m′ a l e = set-agree m m′ i (lower v) a l e
+stored-agree (At Word i v) m m′ a l e = word-agree m m′ i v a l e
 
 pub pushed-agree :
     (ssp : ℕ) (flags : Flags) (saved : ℕ) (m m′ : List ℕ) (a : ℕ) → length m ≡ length m′ → Agree a m m′
@@ -109,13 +111,10 @@ module _ (tlb : List ℕ) where
   unfolding stored
   spares-nothing m a h = refl
 
-  pub spares-byte : (p v : ℕ) → ByteIn tlb Write p → Spares tlb (Byte p v)
+  pub spares-at : (width : Width) (p v : ℕ) → BytesIn width tlb Write p → Spares tlb (At width p v)
   unfolding stored
-  spares-byte p v b m a h = getD-set-other m p a (lower v) 0 (apart h b)
-
-  pub spares-word : (p v : ℕ) → ByteIn tlb Write p × ByteIn tlb Write (plus p 1) → Spares tlb (Word p v)
-  unfolding stored
-  spares-word p v b m a h = by (word-kept m p v a)
+  spares-at Byte p v b m a h = getD-set-other m p a (lower v) 0 (apart h b)
+  spares-at Word p v b m a h = by (word-kept m p v a)
     where
       by : {x y : ℕ} → (x ≡ y) ⊎ ((a ≡ p) ⊎ (a ≡ plus p 1)) → x ≡ y
       by (inl e) = e

@@ -9,19 +9,20 @@ use lib.Dec.{eqb}
 use lib.ListN.{getD, length, length-set, set}
 use Rattle.decode.specs.Code.{HALT}
 use Rattle.decode.specs.declared.Instruction.{Instruction}
-use Rattle.mmu.specs.Access.{wordAccess}
+use Rattle.mmu.specs.Access.{accessOf}
 use Rattle.mmu.specs.Entry.{marked}
-use Rattle.mmu.specs.Laws.{access-keeps, byte-cases, word-cases}
+use Rattle.mmu.specs.Laws.{access-cases, access-keeps}
 use Rattle.memory.specs.Memory.{stored}
 use Rattle.mmu.specs.declared.Access.{Access}
 use Rattle.mmu.specs.declared.Access.the-variants as access
 use Rattle.mmu.specs.declared.Accessed.{Accessed}
 use Rattle.mmu.specs.declared.Right.{Right}
-use Rattle.mmu.specs.declared.Right.the-variants.{Execute, Read, Write}
+use Rattle.mmu.specs.declared.Right.the-variants as right
 use Rattle.memory.specs.declared.Store.{Store}
 use Rattle.memory.specs.declared.Store.the-variants as store
 use Rattle.word.specs.Cases.{either}
 use Rattle.word.specs.Word.{plus}
+use Rattle.word.specs.declared.Width.the-variants as width
 use Rattle.machine.specs.Enter.{Outcome, enterOf}
 use Rattle.status.specs.Saved.{pushed}
 use Rattle.machine.specs.Execute.{eventOf}
@@ -36,7 +37,7 @@ use Rattle.machine.specs.declared.Condition.{Condition}
 use Rattle.machine.specs.declared.Event.{Event}
 use Rattle.machine.specs.declared.Event.the-variants as event
 use Rattle.transfer.specs.declared.Need.{Need}
-use Rattle.transfer.specs.declared.Need.the-variants.{ReadByte, ReadTwo, ReadWord, Value, WriteByte, WriteWord}
+use Rattle.transfer.specs.declared.Need.the-variants.{Read, ReadTwo, Value, Write}
 use Rattle.plan.specs.declared.Operation.{Operation}
 use Rattle.plan.specs.declared.Plan.{Plan}
 use Rattle.plan.specs.declared.Plan.the-variants.{Interrupt, Perform, Trap, Violation}
@@ -48,19 +49,17 @@ use Rattle.machine.specs.declared.State.{State}
 -- what the marks of an entry keep of a TLB, the data access of an instruction keeps
 module _ (P : List ℕ → Type 0) (mark : (t : List ℕ) (k : ℕ) (right : Right) → P t → P (set t k (marked right (getD t k 0)))) where
   second-keeps : (x : Access) (on : Bool) (tlb m : List ℕ) (a : ℕ) → P tlb → P ((readSecond x on tlb m a) .tlb)
-  second-keeps (access.At at) on tlb m a h = access-keeps P mark (word-cases on tlb Read (plus a 2)) h
+  second-keeps (access.At at) on tlb m a h = access-keeps P mark (access-cases width.Word on tlb right.Read (plus a 2)) h
   second-keeps (access.Fails why) on tlb m a h = h
 
   pub transfer-keeps : (need : Need) (on : Bool) (tlb m : List ℕ) (value : ℕ) → P tlb → P ((transferOf need on tlb m value) .tlb)
   unfolding transferOf
   transfer-keeps (Value v) on tlb m value h = h
-  transfer-keeps (ReadWord a) on tlb m value h = access-keeps P mark (word-cases on tlb Read a) h
-  transfer-keeps (ReadByte a) on tlb m value h = access-keeps P mark (byte-cases on tlb Read a) h
+  transfer-keeps (Read w a) on tlb m value h = access-keeps P mark (access-cases w on tlb right.Read a) h
   transfer-keeps (ReadTwo a) on tlb m value h =
-      let x : Accessed = wordAccess on tlb Read a in
-      second-keeps (x .access) on (x .tlb) m a (access-keeps P mark (word-cases on tlb Read a) h)
-  transfer-keeps (WriteWord a) on tlb m value h = access-keeps P mark (word-cases on tlb Write a) h
-  transfer-keeps (WriteByte a) on tlb m value h = access-keeps P mark (byte-cases on tlb Write a) h
+      let x : Accessed = accessOf width.Word on tlb right.Read a in
+      second-keeps (x .access) on (x .tlb) m a (access-keeps P mark (access-cases width.Word on tlb right.Read a) h)
+  transfer-keeps (Write w a) on tlb m value h = access-keeps P mark (access-cases w on tlb right.Write a) h
 
 -- a state with an entry of its TLB marked
 abbrev pub withMark : State → ℕ → Right → State
@@ -71,7 +70,7 @@ module _ (P : State → Type 0) (mark : (st : State) (k : ℕ) (right : Right) �
   pub fetch-keeps : (st : State) (a : ℕ) → P st → P (after st (fetched st a))
   fetch-keeps st a h =
       access-keeps (λ (t : List ℕ). P (withTlb st t)) (λ t k right g. mark (withTlb st t) k right g)
-      (word-cases (translates st) (st .tlb) Execute a) h
+      (access-cases width.Word (translates st) (st .tlb) right.Execute a) h
 
   operand-keeps : (st : State) → P st → (m : List ℕ) (ins : Instruction) (following : ℕ) → P ((planOperand st m ins following) .state)
   unfolding planOperand
@@ -99,8 +98,8 @@ module _ (m : List ℕ) where
   pub stored-long : (s : Store) → length (stored s m) ≡ length m
   unfolding stored
   stored-long store.Nothing = refl
-  stored-long (store.Word a v) = simp length-set
-  stored-long (store.Byte a v) = simp length-set
+  stored-long (store.At width.Byte a v) = simp length-set
+  stored-long (store.At width.Word a v) = simp length-set
 
   enter-long : (st : State) (pending number saved : ℕ) → length ((enterOf st pending number saved m) .memory) ≡ length m
   unfolding pushed

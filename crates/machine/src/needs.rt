@@ -9,6 +9,7 @@ use decode::DataAccess;
 use decode::Operand;
 use transfer::Need;
 use transfer::store_need;
+use word::Width;
 use word::minus;
 use word::plus;
 use word::to_word;
@@ -36,14 +37,14 @@ impl State {
         ensures { λ r. ⌜ r ≡ def.loadNeed (regOf self) a operand ⌝ }
     {
         match operand {
-            Operand::Direct(_) => Need::ReadWord(a),
-            Operand::Indexed(_, _) => Need::ReadWord(a),
+            Operand::Direct(_) => Need::Read(Width::Word, a),
+            Operand::Indexed(_, _) => Need::Read(Width::Word, a),
             Operand::Immediate(v) => Need::Value(v),
-            Operand::Frame(_) => Need::ReadWord(a),
+            Operand::Frame(_) => Need::Read(Width::Word, a),
             Operand::Register(r) => Need::Value(self.register(r)),
             Operand::Short(v) => Need::Value(to_word(v)),
-            Operand::Indirect(_) => Need::ReadWord(a),
-            Operand::ByteIndirect(_) => Need::ReadByte(a),
+            Operand::Indirect(_) => Need::Read(Width::Word, a),
+            Operand::ByteIndirect(_) => Need::Read(Width::Byte, a),
             Operand::Nothing => Need::Value(0),
         }
     }
@@ -60,8 +61,8 @@ impl State {
             }
             DataAccess::Source => self.load_need(a, operand),
             DataAccess::Destination => store_need(a, operand),
-            DataAccess::Push => Need::WriteWord(minus(self.sp(), 2)),
-            DataAccess::Pop => Need::ReadWord(self.sp()),
+            DataAccess::Push => Need::Write(Width::Word, minus(self.sp(), 2)),
+            DataAccess::Pop => Need::Read(Width::Word, self.sp()),
             DataAccess::PopTwo => Need::ReadTwo(self.sp()),
         }
     }

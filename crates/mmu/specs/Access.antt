@@ -1,12 +1,14 @@
 -- An access. Document 01, "MMU" and "Faults in order": "Each access is tested for an odd word address (11, cause bit 1, in any mode), then no
 -- entry (10), then right (11, cause bit 0)."
 -- Assumes nothing.
-use mathlib.Core.Bool.{Bool, cond}
+use mathlib.Core.Bool.{Bool, cond, false}
 use mathlib.Core.List.{List}
 use Prim.Native.Nat.{ℕ, _%_}
 use lib.Dec.{eqb}
 use lib.ListN.{getD, set}
 use Rattle.word.specs.Word.{halves, lower, upper}
+use Rattle.word.specs.declared.Width.{Width}
+use Rattle.word.specs.declared.Width.the-variants.{Byte, Word}
 use Rattle.mmu.specs.Entry.{frameIn, gives, marked}
 use Rattle.mmu.specs.Lookup.{lookupOf}
 use Rattle.mmu.specs.declared.Access.the-variants.{At, Fails}
@@ -38,10 +40,15 @@ byLookup (lookup.Entry k) tlb right a = byEntry tlb k right a
 unfoldable pub byTlb : List ℕ → Right → ℕ → Accessed
 byTlb tlb right a = byLookup (lookupOf tlb (upper a)) tlb right a
 
--- an access to a byte: translated, or at the address itself
-unfoldable pub byteAccess : Bool → List ℕ → Right → ℕ → Accessed
-byteAccess on tlb right a = cond on (byTlb tlb right a) (granted a tlb)
+-- translated, or at the address itself
+unfoldable pub alignedAccess : Bool → List ℕ → Right → ℕ → Accessed
+alignedAccess on tlb right a = cond on (byTlb tlb right a) (granted a tlb)
 
--- an access to a word: "tested for an odd word address ... in any mode", then as a byte
-unfoldable pub wordAccess : Bool → List ℕ → Right → ℕ → Accessed
-wordAccess on tlb right a = cond (eqb (a % 2) 1) (failed fault.Odd tlb) (byteAccess on tlb right a)
+-- "an odd word address": a byte's address is never one
+abbrev pub misaligned : Width → ℕ → Bool
+misaligned Byte a = false
+misaligned Word a = eqb (a % 2) 1
+
+-- an access to a byte or a word: "tested for an odd word address ... in any mode" first
+unfoldable pub accessOf : Width → Bool → List ℕ → Right → ℕ → Accessed
+accessOf width on tlb right a = cond (misaligned width a) (failed fault.Odd tlb) (alignedAccess on tlb right a)

@@ -1,6 +1,6 @@
 -- The entry that a lookup finds: one of the eight, valid, with the page.
 -- Assumes nothing.
-use mathlib.Core.Bool.{Bool, cond, false, true, false≢true, _&&_}
+use mathlib.Core.Bool.{Bool, cond, false, true}
 use mathlib.Core.List.{List}
 use mathlib.Core.Path.{_≡_, refl}
 use Prim.Native.Nat.{ℕ, suc, zero, _+_, _<_}
@@ -8,6 +8,7 @@ use native.Mathlib.Omega.{arith}
 use borrow.Author.Tests.{eqb-true}
 use lib.Dec.{eqb}
 use lib.ListN.{getD}
+use Rattle.word.specs.Cases.{rest, this}
 use Rattle.mmu.specs.Entry.{pageIn, valid}
 use Rattle.mmu.specs.Lookup.{hasPage, lookupFrom, lookupOf}
 use Rattle.mmu.specs.declared.Lookup.{Lookup}
@@ -36,12 +37,8 @@ found tlb page k e = let r = found-from tlb page 8 0 k e in record { below = r .
 
 -- ---- what it is to hold a page
 
-pub both : (a b : Bool) → (a && b) ≡ true → (a ≡ true) × (b ≡ true)
-both true b e = (refl, e)
-both false b e = absurd (false≢true e)
-
 pub held-valid : (page entry : ℕ) → hasPage page entry ≡ true → valid entry ≡ true
-held-valid page entry h = both (eqb (pageIn entry) page) (valid entry) h .1
+held-valid page entry h = rest (eqb (pageIn entry) page) (valid entry) h
 
 pub held-page : (page entry : ℕ) → hasPage page entry ≡ true → pageIn entry ≡ page
-held-page page entry h = eqb-true _ _ (both (eqb (pageIn entry) page) (valid entry) h .0)
+held-page page entry h = eqb-true _ _ (this (eqb (pageIn entry) page) (valid entry) h)

@@ -8,20 +8,23 @@ use native.Mathlib.Omega.{arith}
 use borrow.Author.Tests.{ne-eqb}
 use lib.ListN.{getD}
 use lib.Seq.{set-getD}
+use Rattle.word.specs.Width.{bytesOf}
 use Rattle.word.specs.Word.{halves, lower, upper}
-use Rattle.mmu.specs.Access.{byEntry, byTlb, byteAccess, granted, wordAccess}
+use Rattle.word.specs.declared.Width.{Width}
+use Rattle.word.specs.declared.Width.the-variants.{Byte, Word}
+use Rattle.mmu.specs.Access.{accessOf, alignedAccess, byEntry, byTlb, granted}
 use Rattle.mmu.specs.Entry.{frameIn, gives, marked}
 use Rattle.mmu.specs.Lookup.{lookupOf}
 use Rattle.mmu.specs.declared.Lookup.the-variants.{Entry}
 use Rattle.mmu.specs.declared.Right.{Right}
 
 module _ (tlb : List ℕ) (right : Right) (a : ℕ) where
-  pub plain-granted : byteAccess false tlb right a ≡ granted a tlb
-  unfolding byteAccess
+  pub plain-granted : alignedAccess false tlb right a ≡ granted a tlb
+  unfolding alignedAccess
   plain-granted = refl
 
-  pub translated : byteAccess true tlb right a ≡ byTlb tlb right a
-  unfolding byteAccess
+  pub translated : alignedAccess true tlb right a ≡ byTlb tlb right a
+  unfolding alignedAccess
   translated = refl
 
   pub served-marked :
@@ -30,7 +33,8 @@ module _ (tlb : List ℕ) (right : Right) (a : ℕ) where
   unfolding byTlb byEntry
   served-marked k e g m = rw (e, g, m, set-getD)
 
-  -- an even word is accessed as a byte
-  pub even-word : (on : Bool) → a % 2 ≡ 0 → wordAccess on tlb right a ≡ byteAccess on tlb right a
-  unfolding wordAccess
-  even-word on e = rw (ne-eqb (a % 2) 1 (λ q. omega arith))
+  -- at a multiple of the width
+  pub aligned-access : (width : Width) (on : Bool) → a % bytesOf width ≡ 0 → accessOf width on tlb right a ≡ alignedAccess on tlb right a
+  unfolding accessOf
+  aligned-access Byte on e = refl
+  aligned-access Word on e = rw (ne-eqb (a % 2) 1 (λ q. omega arith))

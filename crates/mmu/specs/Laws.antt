@@ -8,8 +8,11 @@ use native.Mathlib.Omega.{arith}
 use borrow.Author.Tests.{eqb-false}
 use lib.Dec.{eqb}
 use lib.ListN.{getD, length, set, length-set}
+use Rattle.word.specs.Cases.{either}
 use Rattle.word.specs.Word.{halves, lower, upper}
-use Rattle.mmu.specs.Access.{byEntry, byLookup, byTlb, byteAccess, failed, granted, wordAccess}
+use Rattle.word.specs.declared.Width.{Width}
+use Rattle.word.specs.declared.Width.the-variants.{Word}
+use Rattle.mmu.specs.Access.{accessOf, alignedAccess, byEntry, byLookup, byTlb, failed, granted, misaligned}
 use Rattle.mmu.specs.Entry.{frameIn, gives, marked}
 use Rattle.mmu.specs.Found.{Found, found}
 use Rattle.mmu.specs.Lookup.{hasPage, lookupOf}
@@ -46,26 +49,23 @@ module _ (tlb : List ℕ) (right : Right) (a : ℕ) where
   lookup-cases lookup.Missing e = fails fault.Missing refl
   lookup-cases (lookup.Entry k) e = entry-cases k (found tlb (upper a) k e)
 
-pub byte-cases : (on : Bool) (tlb : List ℕ) (right : Right) (a : ℕ) → AccessCases on tlb right a (byteAccess on tlb right a)
-unfolding byteAccess byTlb
-byte-cases true tlb right a = lookup-cases tlb right a (lookupOf tlb (upper a)) refl
-byte-cases false tlb right a = direct refl refl
+aligned-cases : (on : Bool) (tlb : List ℕ) (right : Right) (a : ℕ) → AccessCases on tlb right a (alignedAccess on tlb right a)
+unfolding alignedAccess byTlb
+aligned-cases true tlb right a = lookup-cases tlb right a (lookupOf tlb (upper a)) refl
+aligned-cases false tlb right a = direct refl refl
 
-pub word-cases : (on : Bool) (tlb : List ℕ) (right : Right) (a : ℕ) → AccessCases on tlb right a (wordAccess on tlb right a)
-unfolding wordAccess
-word-cases on tlb right a = by (eqb (a % 2) 1)
-  where
-    by : (t : Bool) → AccessCases on tlb right a (cond t (failed fault.Odd tlb) (byteAccess on tlb right a))
-    by true = fails fault.Odd refl
-    by false = byte-cases on tlb right a
+pub access-cases : (width : Width) (on : Bool) (tlb : List ℕ) (right : Right) (a : ℕ) → AccessCases on tlb right a (accessOf width on tlb right a)
+unfolding accessOf
+access-cases width on tlb right a =
+    either (AccessCases on tlb right a) (misaligned width a) (λ _. fails fault.Odd refl) (λ _. aligned-cases on tlb right a)
 
 -- a word that is granted has an even address
-pub word-even : (on : Bool) (tlb : List ℕ) (right : Right) (a p : ℕ) → (wordAccess on tlb right a) .access ≡ At p → a % 2 ≡ 0
-unfolding wordAccess
+pub word-even : (on : Bool) (tlb : List ℕ) (right : Right) (a p : ℕ) → (accessOf Word on tlb right a) .access ≡ At p → a % 2 ≡ 0
+unfolding accessOf
 word-even on tlb right a p = by (eqb (a % 2) 1) refl
   where
     by :
-        (t : Bool) → eqb (a % 2) 1 ≡ t → (cond t (failed fault.Odd tlb) (byteAccess on tlb right a)) .access ≡ At p
+        (t : Bool) → eqb (a % 2) 1 ≡ t → (cond t (failed fault.Odd tlb) (alignedAccess on tlb right a)) .access ≡ At p
         → a % 2 ≡ 0
     by true o e = let z : _≡_ {A = ℕ} 0 1 = cc in absurd (omega arith)
     by false o e = omega (arith, eqb-false (a % 2) 1 o)

@@ -7,9 +7,9 @@ use Prim.Native.Nat.{ℕ, _%_, _+_, _/_, _<_}
 use native.Mathlib.Omega.{arith}
 use borrow.Author.Tests.{eqb-false}
 use lib.Dec.{eqb}
+use Rattle.word.specs.Cases.{rest, this}
 use Rattle.word.specs.Word.{isSet}
 use Rattle.mmu.specs.Entry.{frameIn, gives, marked, pageIn, valid, withBit}
-use Rattle.mmu.specs.Found.{both}
 use Rattle.mmu.specs.declared.Right.{Right}
 use Rattle.mmu.specs.declared.Right.the-variants.{Execute, Read, Write}
 
@@ -68,9 +68,8 @@ usableIn Execute entry = gives Execute entry && isSet 12 entry
 
 pub usable-marked : (right : Right) (entry : ℕ) → usableIn right entry ≡ true → (gives right entry ≡ true) × (marked right entry ≡ entry)
 unfolding usableIn
-usable-marked Read entry e = let h = both (gives Read entry) (isSet 12 entry) e in (h .0, rw (h .1))
+usable-marked Read entry e = (this (gives Read entry) _ e, rw (rest (gives Read entry) _ e))
 usable-marked Write entry e =
-    let h = both (gives Write entry) (isSet 12 entry && isSet 11 entry) e in
-    let k = both (isSet 12 entry) (isSet 11 entry) (h .1) in
-    (h .0, rw (k .0) (rw (k .1)))
-usable-marked Execute entry e = let h = both (gives Execute entry) (isSet 12 entry) e in (h .0, rw (h .1))
+    let k : (isSet 12 entry && isSet 11 entry) ≡ true = rest (gives Write entry) _ e in
+    (this (gives Write entry) _ e, rw (this (isSet 12 entry) _ k) (rw (rest (isSet 12 entry) _ k)))
+usable-marked Execute entry e = (this (gives Execute entry) _ e, rw (rest (gives Execute entry) _ e))

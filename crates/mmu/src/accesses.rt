@@ -10,6 +10,7 @@ use crate::Right;
 use crate::entry::gives;
 use crate::entry::marked;
 use crate::lookups::look_up;
+use word::Width;
 
 fn granted(a: u16, tlb: [u32; 8]) -> Accessed
     ensures { λ r. ⌜ r ≡ def.granted a tlb ⌝ }
@@ -52,9 +53,9 @@ fn translate(tlb: [u32; 8], right: Right, a: u16) -> Accessed
     }
 }
 
-// An access to a byte. `on` says whether the MMU translates.
-pub fn byte_access(on: bool, tlb: [u32; 8], right: Right, a: u16) -> Accessed
-    ensures { λ r. ⌜ r ≡ def.byteAccess on tlb right a ⌝ }
+// An access whose address is none of an odd word.
+fn aligned(on: bool, tlb: [u32; 8], right: Right, a: u16) -> Accessed
+    ensures { λ r. ⌜ r ≡ def.alignedAccess on tlb right a ⌝ }
 {
     if on {
         return translate(tlb, right, a);
@@ -62,12 +63,22 @@ pub fn byte_access(on: bool, tlb: [u32; 8], right: Right, a: u16) -> Accessed
     granted(a, tlb)
 }
 
-// An access to a word.
-pub fn word_access(on: bool, tlb: [u32; 8], right: Right, a: u16) -> Accessed
-    ensures { λ r. ⌜ r ≡ def.wordAccess on tlb right a ⌝ }
+// A word at an odd address.
+fn misaligned(width: Width, a: u16) -> bool
+    ensures { λ r. ⌜ r ≡ def.misaligned width a ⌝ }
 {
-    if a % 2 == 1 {
+    match width {
+        Width::Byte => false,
+        Width::Word => a % 2 == 1,
+    }
+}
+
+// An access. `on` says whether the MMU translates.
+pub fn try_access(width: Width, on: bool, tlb: [u32; 8], right: Right, a: u16) -> Accessed
+    ensures { λ r. ⌜ r ≡ def.accessOf width on tlb right a ⌝ }
+{
+    if misaligned(width, a) {
         return failed(Fault::Odd, tlb);
     }
-    byte_access(on, tlb, right, a)
+    aligned(on, tlb, right, a)
 }

@@ -3,8 +3,7 @@ mod accesses;
 mod entry;
 mod lookups;
 
-pub use accesses::byte_access;
-pub use accesses::word_access;
+pub use accesses::try_access;
 
 // What a right is asked for.
 pub enum Right {

@@ -4,20 +4,11 @@ use mathlib.Core.Bool.{Bool, false, false≢true, true}
 use mathlib.Core.List.{List}
 use mathlib.Core.Path.{sym, _∙_, _≡_}
 use Prim.Native.Nat.{ℕ}
-use Rattle.memory.specs.Memory.{byteAt, storeByte, storeWord, wordAt}
+use Rattle.memory.specs.Memory.{readAt, writeAt}
 use Rattle.mmu.specs.declared.Right.{Right}
 use Rattle.mmu.specs.declared.Right.the-variants as right
+use Rattle.word.specs.declared.Width.{Width}
 use Rattle.pages.specs.Maps.{Placed}
-use Rattle.pages.specs.declared.Width.{Width}
-use Rattle.pages.specs.declared.Width.the-variants.{Byte, Word}
-
-abbrev pub readAt : Width → List ℕ → ℕ → ℕ
-readAt Byte = byteAt
-readAt Word = wordAt
-
-abbrev pub writeAt : Width → List ℕ → ℕ → ℕ → List ℕ
-writeAt Byte = storeByte
-writeAt Word = storeWord
 
 -- x is read
 pub record Reads (map m : List ℕ) (right : Right) (width : Width) (a x : ℕ) : Type 0 where

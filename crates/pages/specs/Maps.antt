@@ -11,19 +11,19 @@ use lib.Dec.{eqb}
 use lib.ListN.{getD, length, set}
 use lib.Seq.{getD-set-other, getD-set-same}
 use mir.Val.{boolByte}
-use Rattle.mmu.specs.Access.{byteAccess, granted, wordAccess}
+use Rattle.mmu.specs.Access.{accessOf, alignedAccess, granted}
 use Rattle.mmu.specs.Entry.{frameIn, pageIn, valid}
-use Rattle.mmu.specs.Grants.{even-word, plain-granted, served-marked, translated}
+use Rattle.mmu.specs.Grants.{aligned-access, plain-granted, served-marked, translated}
 use Rattle.mmu.specs.Lookup.{hasPage, lookupFrom, lookupOf}
 use Rattle.mmu.specs.Marks.{usable-marked, usableIn}
-use Rattle.mmu.specs.declared.Accessed.{Accessed}
 use Rattle.mmu.specs.declared.Lookup.{Lookup}
 use Rattle.mmu.specs.declared.Lookup.the-variants.{Entry, Missing}
 use Rattle.mmu.specs.declared.Right.{Right}
 use Rattle.mmu.specs.declared.Right.the-variants.{Execute, Read, Write}
+use Rattle.word.specs.Width.{bytesOf}
 use Rattle.word.specs.Word.{bit, isSet, halves, lower, upper}
-use Rattle.pages.specs.declared.Width.{Width}
-use Rattle.pages.specs.declared.Width.the-variants.{Byte, Word}
+use Rattle.word.specs.declared.Width.{Width}
+use Rattle.word.specs.declared.Width.the-variants.{Byte, Word}
 
 -- the bit of a right
 abbrev pub mapBit : Right → ℕ
@@ -38,23 +38,10 @@ lowest-bit x = let e : x % 2 ≡ bit 0 x = omega arith in rw e
 abbrev pub placeIn : List ℕ → ℕ → ℕ
 placeIn map a = halves (upper (getD map (upper a) 0)) (lower a)
 
--- how many bytes are accessed, and the access
-abbrev pub bytesOf : Width → ℕ
-bytesOf Byte = 1
-bytesOf Word = 2
-
-pub some-bytes : (width : Width) → 0 < bytesOf width
-some-bytes Byte = omega arith
-some-bytes Word = omega arith
-
-abbrev pub accessOf : Width → Bool → List ℕ → Right → ℕ → Accessed
-accessOf Byte = byteAccess
-accessOf Word = wordAccess
-
 -- a map of the pages, with translation on or off and this TLB
 pub record Mapped (on : Bool) (tlb map : List ℕ) : Type 0 where
   pub grants :
-      (right : Right) (a : ℕ) → a < 65536 → isSet (mapBit right) (getD map (upper a) 0) ≡ true → byteAccess on tlb right a ≡ granted (placeIn map a) tlb
+      (right : Right) (a : ℕ) → a < 65536 → isSet (mapBit right) (getD map (upper a) 0) ≡ true → alignedAccess on tlb right a ≡ granted (placeIn map a) tlb
 
 -- a place that the map gives
 pub record Placed (map : List ℕ) (right : Right) (width : Width) (a at : ℕ) : Type 0 where
@@ -70,8 +57,8 @@ word-placed p even = record { below = p .below; aligned = even; granted = p .gra
 pub access-granted :
     {on : Bool} {tlb map : List ℕ} {right : Right} {width : Width} {a at : ℕ} → Mapped on tlb map → Placed map right width a at
     → accessOf width on tlb right a ≡ granted at tlb
-access-granted {right} {width = Byte} {a} maps p = rw (p .place) (maps .grants right a (p .below) (p .granted))
-access-granted {on} {tlb} {right} {width = Word} {a} maps p = rw (p .place) (even-word tlb right a on (p .aligned) ∙ maps .grants right a (p .below) (p .granted))
+access-granted {on} {tlb} {right} {width} {a} maps p =
+    rw (p .place) (aligned-access tlb right a width on (p .aligned) ∙ maps .grants right a (p .below) (p .granted))
 
 -- ---- nothing is translated
 
@@ -164,7 +151,7 @@ unfolding lookupOf
 tlb-mapped tlb map is-on shows = rw is-on (record { grants = λ right a below set. by right a below set (lookupOf tlb (upper a)) refl })
   where
     by : (right : Right) (a : ℕ) → a < 65536 → isSet (mapBit right) (getD map (upper a) 0) ≡ true → (x : Lookup) → lookupOf tlb (upper a) ≡ x
-        → byteAccess true tlb right a ≡ granted (placeIn map a) tlb
+        → alignedAccess true tlb right a ≡ granted (placeIn map a) tlb
     by right a below set Missing e =
         let s : getD map (upper a) 0 ≡ 0 = shows (upper a) (omega arith) ∙ ap (shownAt tlb) e in
         absurd (false≢true (sym (no-bit right) ∙ (rw s at set)))

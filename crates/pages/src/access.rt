@@ -5,13 +5,14 @@ ghost use lib.ListN.{length};
 ghost use Rattle.memory.specs.Memory.{wordAt};
 ghost use Rattle.mmu.specs.declared.Right.the-variants as right;
 ghost use Rattle.pages.specs.Accesses.{Reads, Writes};
-ghost use Rattle.pages.specs.Maps.{Placed, bytesOf};
-ghost use Rattle.pages.specs.declared.Width.the-variants as width;
+ghost use Rattle.pages.specs.Maps.{Placed};
+ghost use Rattle.word.specs.Width.{bytesOf};
+ghost use Rattle.word.specs.declared.Width.the-variants as width;
 use crate::NONE;
 use crate::NOWHERE;
-use crate::Width;
 use crate::map::place;
 use mmu::Right;
+use word::Width;
 
 // The word at an even place.
 pub fn word_at(mem: &[u8], i: usize) -> u32

@@ -9,12 +9,6 @@ pub use access::write;
 pub use map::page_map;
 pub use map::place;
 
-// What is accessed.
-pub enum Width {
-    Byte,
-    Word,
-}
-
 // No word: beyond every word.
 pub const NONE: u32 = 65536;
 

@@ -5,8 +5,8 @@ ghost use Prim.Native.Nat.{_<_};
 ghost use Rattle.mmu.specs.Entry.{pageIn};
 ghost use Rattle.mmu.specs.Marks.{usableIn};
 ghost use Rattle.word.specs.Word.{isSet, halves, lower, upper};
+ghost use Rattle.word.specs.declared.Width.the-variants as width;
 ghost use Rattle.pages.specs.Maps.{Mapped, Placed, SelfTo, ShowsFrom, mapBit, shownOf};
-ghost use Rattle.pages.specs.declared.Width.the-variants as width;
 use crate::NOWHERE;
 use mmu::Right;
 

@@ -30,7 +30,7 @@ use Rattle.plan.specs.End.{endOf}
 use Rattle.machine.specs.Run.{runFrom, runOf}
 use Rattle.machine.specs.Step.{commit, stepOf}
 use Rattle.transfer.specs.Transfer.{transferOf}
-use Rattle.mmu.specs.Access.{byEntry, byTlb, byteAccess, wordAccess}
+use Rattle.mmu.specs.Access.{accessOf, alignedAccess, byEntry, byTlb}
 use Rattle.mmu.specs.Lookup.{lookupFrom, lookupOf}
 use Rattle.refusal.specs.Refusal.{reportFits}
 use Rattle.refusal.specs.declared.Validity.the-variants.{Good}
@@ -144,6 +144,6 @@ pub entered :
     × ((wordFrom ((runCall memory image 9 report) .image) pcAt ≡ 0) × (wordFrom ((runCall memory′ image 9 report) .image) pcAt ≡ 0x2000))
 unfolding image memory memory′ report runCall machineValid goodImage flagGood pendingGood allZeros zerosGood reportFits stateFrom conditionFrom
     reportOf imageOf wordBytes entryBytes runOf runFrom commit stepOf enterOf pushed flagWord
-    fieldsBad firstOf hasSecond usesRx eight inModes inRows modeBits opcodeOf row rows single byEntry byTlb byteAccess lookupFrom lookupOf wordAccess
+    fieldsBad firstOf hasSecond usesRx eight inModes inRows modeBits opcodeOf row rows single accessOf alignedAccess byEntry byTlb lookupFrom lookupOf
     needOf transferOf endOf interruptIn planFetch planFirst planOf planOperand planSecond
 entered = (refl, (refl, refl))

@@ -11,8 +11,8 @@ use Rattle.machine.specs.declared.State.{State}
 use Rattle.mmu.specs.declared.Right.the-variants.{Execute}
 use Rattle.pages.specs.Accesses.{Reads}
 use Rattle.pages.specs.Maps.{access-granted}
-use Rattle.pages.specs.declared.Width.{Width}
-use Rattle.pages.specs.declared.Width.the-variants.{Word}
+use Rattle.word.specs.declared.Width.{Width}
+use Rattle.word.specs.declared.Width.the-variants.{Word}
 use Rattle.word.specs.Word.{plus}
 use Rattle.source.specs.Fields.{RegRead, modeOf}
 use Rattle.source.specs.Sources.{Named, Valued, by-frame, by-index, by-register, by-register-byte, by-second, field, held, loaded, second}

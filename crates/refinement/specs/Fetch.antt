@@ -20,17 +20,18 @@ use Rattle.transfer.specs.Transfer.{transferOf}
 use Rattle.plan.specs.declared.Ready.{Ready}
 use Rattle.machine.specs.declared.State.{State}
 use Rattle.transfer.specs.declared.Transfer.the-variants.{Done}
-use Rattle.mmu.specs.Access.{granted, wordAccess}
+use Rattle.mmu.specs.Access.{accessOf, granted}
 use Rattle.memory.specs.Memory.{wordAt}
 use Rattle.mmu.specs.declared.Right.{Right}
 use Rattle.mmu.specs.declared.Right.the-variants.{Execute}
 use Rattle.memory.specs.declared.Store.{Store}
 use Rattle.word.specs.Word.{plus, upper}
+use Rattle.word.specs.declared.Width.the-variants.{Word}
 use Rattle.refinement.specs.Statement.{carriedOut}
 
 -- an access to a word that is granted at a physical address and leaves the TLB as it is
 abbrev pub Grants : State → Right → ℕ → ℕ → Type 0
-Grants st right a at = wordAccess (translates st) (st .tlb) right a ≡ granted at (st .tlb)
+Grants st right a at = accessOf Word (translates st) (st .tlb) right a ≡ granted at (st .tlb)
 
 -- the instruction of a row in a mode, with an operand
 abbrev pub instruction : Row → ℕ → ℕ → Operand → Instruction

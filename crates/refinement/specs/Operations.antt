@@ -35,15 +35,13 @@ use Rattle.plan.specs.declared.Operation.{Operation}
 use Rattle.plan.specs.declared.Plan.the-variants.{Perform}
 use Rattle.machine.specs.declared.State.{State}
 use Rattle.transfer.specs.declared.Transfer.the-variants.{Done}
-use Rattle.mmu.specs.Access.{granted}
-use Rattle.memory.specs.Memory.{storeWord, stored, wordAt}
+use Rattle.mmu.specs.Access.{accessOf, granted}
+use Rattle.memory.specs.Memory.{storeWord, stored, wordAt, writeAt}
 use Rattle.mmu.specs.declared.Right.the-variants.{Read, Write}
 use Rattle.memory.specs.declared.Store.{Store}
 use Rattle.memory.specs.declared.Store.the-variants as store
-use Rattle.pages.specs.Accesses.{writeAt}
-use Rattle.pages.specs.Maps.{accessOf}
-use Rattle.pages.specs.declared.Width.{Width}
-use Rattle.pages.specs.declared.Width.the-variants.{Byte, Word}
+use Rattle.word.specs.declared.Width.{Width}
+use Rattle.word.specs.declared.Width.the-variants.{Word}
 use Rattle.alu.specs.Alu.{places, subOf}
 use Rattle.jump.specs.Jump.{conditionOf}
 use Rattle.jump.specs.Laws.{undefined-thirteen}
@@ -210,7 +208,7 @@ module _ (b : State) (rs : List ℕ) (size : length rs ≡ 16) (h : Hot) (m : Li
     unfolding needOf valueStored transferOf endOf commit afterOperation bodyOf eventOf stored
     call-does o sp at q g =
         rw (
-          finishes o e (fields-unused mode w fine) (p .operand) next (p .reached) 0 (store.Word at next)
+          finishes o e (fields-unused mode w fine) (p .operand) next (p .reached) 0 (store.At Word at next)
               (rw (sp-hot b rs (h .pc) (h .v) (h .c) (h .s) (h .z), ← q, g)),
           p .address,
           sp-hot b rs a (h .v) (h .c) (h .s) (h .z),
@@ -223,10 +221,8 @@ module _ (b : State) (rs : List ℕ) (size : length rs ≡ 16) (h : Hot) (m : Li
         (width : Width) → Addressed st m w mode a next width → (at : ℕ) → accessOf width (translates b) (b .tlb) Write a ≡ granted at (b .tlb)
         → Does b rs h m w rs next (h .v) (h .c) (h .s) (h .z) (writeAt width m at held) cost
     unfolding needOf valueStored transferOf endOf commit afterOperation bodyOf eventOf stored
-    store-does Byte p at g =
-        rw (finishes o e (fields-register mode w low fine) (p .operand) next (p .reached) 0 (store.Byte at held) (rw (p .stores, p .address, g, reg rd low)))
-    store-does Word p at g =
-        rw (finishes o e (fields-register mode w low fine) (p .operand) next (p .reached) 0 (store.Word at held) (rw (p .stores, p .address, g, reg rd low)))
+    store-does width p at g =
+        rw (finishes o e (fields-register mode w low fine) (p .operand) next (p .reached) 0 (store.At width at held) (rw (p .wide, p .address, g, reg rd low)))
 
   -- ---- single bytes
 
@@ -252,7 +248,7 @@ module _ (b : State) (rs : List ℕ) (size : length rs ≡ 16) (h : Hot) (m : Li
     push-does e low sp at q g =
         rw (
           finishes {code = PUSH} {cost = 5} {access = data-access.Push} {f = flow.Next} (opens _ refl refl) e (fields-register 8 w low single-fine)
-              operand.Nothing next alone 0 (store.Word at held) (rw (sp-hot b rs (h .pc) (h .v) (h .c) (h .s) (h .z), ← q, g, reg rd low)),
+              operand.Nothing next alone 0 (store.At Word at held) (rw (sp-hot b rs (h .pc) (h .v) (h .c) (h .s) (h .z), ← q, g, reg rd low)),
           sp-hot b rs next (h .v)
               (h .c) (h .s) (h .z),
           ← q,

@@ -23,7 +23,7 @@ use Rattle.machine.specs.PlanLaws.{plan-by}
 use Rattle.machine.specs.Register.{regIn, regOf, spIn, spOf}
 use Rattle.transfer.specs.Transfer.{readSecond, transferAt, transferOf}
 use Rattle.transfer.specs.declared.Need.{Need}
-use Rattle.transfer.specs.declared.Need.the-variants.{ReadByte, ReadTwo, ReadWord, Value, WriteByte, WriteWord}
+use Rattle.transfer.specs.declared.Need.the-variants.{Read, ReadTwo, Value, Write}
 use Rattle.plan.specs.declared.Operation.{Operation}
 use Rattle.plan.specs.declared.Plan.{Plan}
 use Rattle.plan.specs.declared.Plan.the-variants.{Interrupt, Perform, Trap, Violation}
@@ -32,20 +32,22 @@ use Rattle.plan.specs.declared.Ready.{Ready}
 use Rattle.machine.specs.declared.State.{State}
 use Rattle.transfer.specs.declared.Transfer.{Transfer}
 use Rattle.transfer.specs.declared.Transfer.the-variants as transfer
-use Rattle.mmu.specs.Access.{byteAccess, wordAccess}
+use Rattle.mmu.specs.Access.{accessOf}
 use Rattle.mmu.specs.Entry.{marked}
 use Rattle.mmu.specs.Marks.{Like, marked-like}
-use Rattle.memory.specs.Memory.{wordAt}
+use Rattle.memory.specs.Memory.{readAt, wordAt}
 use Rattle.mmu.specs.declared.Access.{Access}
 use Rattle.mmu.specs.declared.Access.the-variants as access
 use Rattle.mmu.specs.declared.Accessed.{Accessed}
 use Rattle.mmu.specs.declared.Right.{Right}
-use Rattle.mmu.specs.declared.Right.the-variants.{Read, Write}
+use Rattle.mmu.specs.declared.Right.the-variants as right
 use Rattle.memory.specs.declared.Store.{Store}
 use Rattle.memory.specs.declared.Store.the-variants as store
 use Rattle.word.specs.Cases.{either}
 use Rattle.word.specs.Laws.{signed4-word, wrap-fits}
 use Rattle.word.specs.Word.{plus}
+use Rattle.word.specs.declared.Width.{Width}
+use Rattle.word.specs.declared.Width.the-variants as width
 use Rattle.roundtrip.specs.Each.{each-set}
 use Rattle.roundtrip.specs.Good.{flag-bits}
 use Rattle.roundtrip.specs.Statement.{Byte, Bytes, EntryFits, Ranged, Word}
@@ -55,8 +57,7 @@ use Rattle.roundtrip.specs.Statement.{Byte, Bytes, EntryFits, Ranged, Wo
 -- the value that is stored
 abbrev pub StoreFits : Store → Type 0
 StoreFits store.Nothing = Unit {0}
-StoreFits (store.Word a v) = Word v
-StoreFits (store.Byte a v) = Unit {0}
+StoreFits (store.At w a v) = Word v
 
 pub record OperationFits (op : Operation) : Type 0 where
   pub held : Word (op .held)
@@ -72,11 +73,9 @@ PlanFits (Perform op) = OperationFits op
 
 abbrev NeedFits : Need → Type 0
 NeedFits (Value v) = Word v
-NeedFits (ReadWord a) = Word a
-NeedFits (ReadByte a) = Word a
+NeedFits (Read w a) = Word a
 NeedFits (ReadTwo a) = Word a
-NeedFits (WriteWord a) = Word a
-NeedFits (WriteByte a) = Word a
+NeedFits (Write w a) = Word a
 
 abbrev TransferFits : Transfer → Type 0
 TransferFits (transfer.Done source second s) = Word source × Word second × StoreFits s
@@ -107,6 +106,10 @@ reg-fits st r k = search (r .words, r, word-either)
 pub word-fits : (m : List ℕ) → Bytes m → (a : ℕ) → Word (wordAt m a)
 word-fits m b a = omega (arith, b a, b (plus a 1))
 
+read-fits : (m : List ℕ) → Bytes m → (w : Width) (a : ℕ) → Word (readAt w m a)
+read-fits m b width.Byte a = omega (arith, b a)
+read-fits m b width.Word a = word-fits m b a
+
 marked-fits : (right : Right) (e : ℕ) → EntryFits e → EntryFits (marked right e)
 marked-fits right e h = let l : Like e (marked right e) = marked-like right e in omega arith
 
@@ -125,7 +128,7 @@ record OperandFits (reg : ℕ → ℕ) (x : Operand) : Type 0 where
 
 module _ (reg : ℕ → ℕ) (regs : (k : ℕ) → Word (reg k)) where
   operand-fits : (mode rx second : ℕ) → Word second → OperandFits reg (operandOf mode rx second)
-  unfolding operandOf addressOf loadNeed storeNeed
+  unfolding operandOf addressOf loadNeed
   operand-fits mode rx second h =
       let none : Word 0 = omega arith in
       either (OperandFits reg) (eqb mode 0) (λ _. search) (λ _.
@@ -157,22 +160,19 @@ at-fits (access.Fails why) a done w h = w
 module _ (on : Bool) (m : List ℕ) (b : Bytes m) where
   second-fits : (x : Access) (tlb : List ℕ) (a : ℕ) → Word a → TransferFits ((readSecond x on tlb m a) .transfer)
   second-fits (access.At at) tlb a w =
-      at-fits ((wordAccess on tlb Read (plus a 2)) .access) (plus a 2) _ (wrap-fits _) (λ at′. (word-fits m b at, word-fits m b at′, tt))
+      at-fits ((accessOf width.Word on tlb right.Read (plus a 2)) .access) (plus a 2) _ (wrap-fits _) (λ at′. (word-fits m b at, word-fits m b at′, tt))
   second-fits (access.Fails why) tlb a w = w
 
   transfer-fits :
       (need : Need) → NeedFits need → (tlb : List ℕ) (value : ℕ) → Word value → TransferFits ((transferOf need on tlb m value) .transfer)
   unfolding transferOf
   transfer-fits (Value w) h tlb value v = (h, omega arith, tt)
-  transfer-fits (ReadWord a) h tlb value v =
-      at-fits ((wordAccess on tlb Read a) .access) a _ h (λ at. (word-fits m b at, omega arith, tt))
-  transfer-fits (ReadByte a) h tlb value v =
-      at-fits ((byteAccess on tlb Read a) .access) a _ h (λ at. (omega (arith, b at), omega arith, tt))
+  transfer-fits (Read w a) h tlb value v =
+      at-fits ((accessOf w on tlb right.Read a) .access) a _ h (λ at. (read-fits m b w at, omega arith, tt))
   transfer-fits (ReadTwo a) h tlb value v =
-      let x : Accessed = wordAccess on tlb Read a in
+      let x : Accessed = accessOf width.Word on tlb right.Read a in
       second-fits (x .access) (x .tlb) a h
-  transfer-fits (WriteWord a) h tlb value v = at-fits ((wordAccess on tlb Write a) .access) a _ h (λ at. (omega arith, omega arith, v))
-  transfer-fits (WriteByte a) h tlb value v = at-fits ((byteAccess on tlb Write a) .access) a _ h (λ at. (omega arith, omega arith, tt))
+  transfer-fits (Write w a) h tlb value v = at-fits ((accessOf w on tlb right.Write a) .access) a _ h (λ at. (omega arith, omega arith, v))
 
 -- ---- the end of the plan
 

@@ -32,6 +32,7 @@ use Rattle.mmu.specs.declared.Fault.{Fault}
 use Rattle.mmu.specs.declared.Fault.the-variants.{Missing, Odd, Refused}
 use Rattle.memory.specs.declared.Store.{Store}
 use Rattle.memory.specs.declared.Store.the-variants as store
+use Rattle.word.specs.declared.Width.the-variants as width
 use Rattle.word.specs.Cases.{either}
 use Rattle.alu.specs.Laws.{addOf-fits, addsOf-fits, andOf-fits, divOf-fits, modOf-fits, mulOf-fits, orOf-fits, shlOf-fits, shraOf-fits, shrlOf-fits, subOf-fits, xorOf-fits}
 use Rattle.word.specs.Laws.{wrap-fits}
@@ -148,8 +149,8 @@ word-bytes m a v b h = each-set Byte (set m a (upper v)) (plus a 1) (lower v) (e
 stored-bytes : (s : Store) → StoreFits s → (m : List ℕ) → Bytes m → Bytes (stored s m)
 unfolding stored
 stored-bytes store.Nothing h m b = b
-stored-bytes (store.Word a v) h m b = word-bytes m a v b h
-stored-bytes (store.Byte a v) h m b = each-set Byte m a (lower v) b (omega arith)
+stored-bytes (store.At width.Byte a v) h m b = each-set Byte m a (lower v) b (omega arith)
+stored-bytes (store.At width.Word a v) h m b = word-bytes m a v b h
 
 pushed-bytes : (ssp : ℕ) (flags : Flags) (saved : ℕ) → Word (wordOf flags) → Word saved → (m : List ℕ) → Bytes m → Bytes (pushed ssp flags saved m)
 unfolding pushed

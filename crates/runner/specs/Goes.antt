@@ -14,7 +14,7 @@ use Rattle.machine.specs.declared.State.{State}
 use Rattle.mmu.specs.declared.Right.the-variants.{Execute}
 use Rattle.pages.specs.Accesses.{Reads}
 use Rattle.pages.specs.Maps.{access-granted}
-use Rattle.pages.specs.declared.Width.the-variants.{Word}
+use Rattle.word.specs.declared.Width.the-variants.{Word}
 use Rattle.refinement.specs.Statement.{MapOf, did, hotState}
 use Rattle.refinement.specs.Fetch.{begins}
 use Rattle.hot.specs.Tells.{Tells, stopped}

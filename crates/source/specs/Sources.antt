@@ -8,8 +8,8 @@ use Rattle.decode.specs.Instructions.{addStates, eight}
 use Rattle.decode.specs.Opcode.{statesAt}
 use Rattle.mmu.specs.declared.Right.the-variants.{Execute, Read}
 use Rattle.pages.specs.Accesses.{Reads}
-use Rattle.pages.specs.declared.Width.{Width}
-use Rattle.pages.specs.declared.Width.the-variants.{Byte, Word}
+use Rattle.word.specs.declared.Width.{Width}
+use Rattle.word.specs.declared.Width.the-variants.{Byte, Word}
 use Rattle.word.specs.Word.{plus}
 use Rattle.source.specs.Fields.{IndexedPlace, RegRead, framePlace, modeOf, shortOf}
 use Rattle.source.specs.Rows.{addCost, below-eight}

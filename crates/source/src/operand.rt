@@ -8,9 +8,9 @@ ghost use Rattle.source.specs.Sources.{SourceIs};
 use crate::registers::FP;
 use crate::registers::register;
 use pages::NONE;
-use pages::Width;
 use pages::fetch;
 use pages::read;
+use word::Width;
 use word::plus;
 
 // An operand: its value, the address of the following instruction, and the states with ADD.

@@ -10,8 +10,10 @@ use Rattle.decode.specs.declared.Operand.{Operand}
 use Rattle.decode.specs.declared.Operand.the-variants as operand
 use Rattle.word.specs.Signed.{word}
 use Rattle.word.specs.Word.{minus, plus}
+use Rattle.word.specs.declared.Width.{Width}
+use Rattle.word.specs.declared.Width.the-variants.{Byte, Word}
 use Rattle.transfer.specs.declared.Need.{Need}
-use Rattle.transfer.specs.declared.Need.the-variants.{ReadByte, ReadTwo, ReadWord, Value, WriteByte, WriteWord}
+use Rattle.transfer.specs.declared.Need.the-variants.{Read, ReadTwo, Value, Write}
 
 -- The address that an operand names. `reg` gives the registers: "Addresses use the registers as they were before the instruction."
 unfoldable pub addressOf : (ℕ → ℕ) → Operand → ℕ
@@ -27,27 +29,31 @@ addressOf reg operand.Nothing = 0
 
 -- the source of LD and of ADD to SHRL, `a` being the operand's address
 unfoldable pub loadNeed : (ℕ → ℕ) → ℕ → Operand → Need
-loadNeed reg a (operand.Direct dsp) = ReadWord a
-loadNeed reg a (operand.Indexed dsp rx) = ReadWord a
+loadNeed reg a (operand.Direct dsp) = Read Word a
+loadNeed reg a (operand.Indexed dsp rx) = Read Word a
 loadNeed reg a (operand.Immediate v) = Value v
-loadNeed reg a (operand.Frame d) = ReadWord a
+loadNeed reg a (operand.Frame d) = Read Word a
 loadNeed reg a (operand.Register r) = Value (reg r)
 loadNeed reg a (operand.Short v) = Value (word v)
-loadNeed reg a (operand.Indirect rx) = ReadWord a
-loadNeed reg a (operand.ByteIndirect rx) = ReadByte a
+loadNeed reg a (operand.Indirect rx) = Read Word a
+loadNeed reg a (operand.ByteIndirect rx) = Read Byte a
 loadNeed reg a operand.Nothing = Value 0
 
--- the place of ST: a byte in mode 7, a word in the others
-unfoldable pub storeNeed : ℕ → Operand → Need
-storeNeed a (operand.Direct dsp) = WriteWord a
-storeNeed a (operand.Indexed dsp rx) = WriteWord a
-storeNeed a (operand.Immediate v) = WriteWord a
-storeNeed a (operand.Frame d) = WriteWord a
-storeNeed a (operand.Register r) = WriteWord a
-storeNeed a (operand.Short v) = WriteWord a
-storeNeed a (operand.Indirect rx) = WriteWord a
-storeNeed a (operand.ByteIndirect rx) = WriteByte a
-storeNeed a operand.Nothing = WriteWord a
+-- "7 byte at [Rx]", a word in the other modes
+abbrev pub widthOf : Operand → Width
+widthOf (operand.Direct dsp) = Word
+widthOf (operand.Indexed dsp rx) = Word
+widthOf (operand.Immediate v) = Word
+widthOf (operand.Frame d) = Word
+widthOf (operand.Register r) = Word
+widthOf (operand.Short v) = Word
+widthOf (operand.Indirect rx) = Word
+widthOf (operand.ByteIndirect rx) = Byte
+widthOf operand.Nothing = Word
+
+-- the place of ST
+abbrev pub storeNeed : ℕ → Operand → Need
+storeNeed a x = Write (widthOf x) a
 
 -- The data access of an instruction, `sp` and `flag` being SP and FLAG. "PUSH and CALL lower SP by 2 and store; POP, RET and RETI read and
 -- raise it." "RETI takes FLAG, then PC, both from SSP". "For jumps, CALL, IN and OUT the address itself is the target or port, not a word read
@@ -57,8 +63,8 @@ needOf None reg sp flag a x = Value 0
 needOf Flag reg sp flag a x = Value flag
 needOf Source reg sp flag a x = loadNeed reg a x
 needOf Destination reg sp flag a x = storeNeed a x
-needOf Push reg sp flag a x = WriteWord (minus sp 2)
-needOf Pop reg sp flag a x = ReadWord sp
+needOf Push reg sp flag a x = Write Word (minus sp 2)
+needOf Pop reg sp flag a x = Read Word sp
 needOf PopTwo reg sp flag a x = ReadTwo sp
 
 -- What an instruction stores: CALL "the following instruction's address", ST and PUSH what Rd holds.

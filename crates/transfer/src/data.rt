@@ -6,20 +6,19 @@ use crate::Need;
 use crate::Transfer;
 use crate::Transferred;
 use memory::Store;
-use memory::byte_at;
 use memory::word_at;
 use mmu::Access;
 use mmu::Accessed;
 use mmu::Right;
-use mmu::byte_access;
-use mmu::word_access;
+use mmu::try_access;
+use word::Width;
 use word::plus;
 
 // The fetch of a word.
 pub fn fetch(on: bool, tlb: [u32; 8], a: u16) -> Accessed
     ensures { λ r. ⌜ r ≡ def.fetchOf on tlb a ⌝ }
 {
-    word_access(on, tlb, Right::Execute, a)
+    try_access(Width::Word, on, tlb, Right::Execute, a)
 }
 
 fn transferred(transfer: Transfer, tlb: [u32; 8]) -> Transferred
@@ -28,27 +27,18 @@ fn transferred(transfer: Transfer, tlb: [u32; 8]) -> Transferred
     Transferred { transfer, tlb }
 }
 
-// A word that is read, or why it is not.
-fn read_word(x: Accessed, mem: &[u8], a: u16) -> Transferred
+// What is read, or why it is not.
+fn read(x: Accessed, mem: &[u8], width: Width, a: u16) -> Transferred
     requires { ⌜ length (now mem) ≡ 65536 ⌝ }
-    ensures { λ r. ⌜ r ≡ def.wordRead x (now (mem .entry)) a ⌝ }
+    ensures { λ r. ⌜ r ≡ def.dataRead width x (now (mem .entry)) a ⌝ }
 {
     let tlb = x.tlb;
     let access = x.access;
     match access {
-        Access::At(at) => transferred(Transfer::Done(word_at(mem, at), 0, Store::Nothing), tlb),
-        Access::Fails(why) => transferred(Transfer::Fails(why, a), tlb),
-    }
-}
-
-fn read_byte(x: Accessed, mem: &[u8], a: u16) -> Transferred
-    requires { ⌜ length (now mem) ≡ 65536 ⌝ }
-    ensures { λ r. ⌜ r ≡ def.byteRead x (now (mem .entry)) a ⌝ }
-{
-    let tlb = x.tlb;
-    let access = x.access;
-    match access {
-        Access::At(at) => transferred(Transfer::Done(byte_at(mem, at), 0, Store::Nothing), tlb),
+        Access::At(at) => transferred(
+            Transfer::Done(memory::read(mem, width, at), 0, Store::Nothing),
+            tlb,
+        ),
         Access::Fails(why) => transferred(Transfer::Fails(why, a), tlb),
     }
 }
@@ -77,31 +67,21 @@ fn read_two(on: bool, x: Accessed, mem: &[u8], a: u16) -> Transferred
     match access {
         Access::At(at) => {
             let next = plus(a, 2);
-            let y = word_access(on, tlb, Right::Read, next);
+            let y = try_access(Width::Word, on, tlb, Right::Read, next);
             read_second(y, mem, word_at(mem, at), next)
         }
         Access::Fails(why) => transferred(Transfer::Fails(why, a), tlb),
     }
 }
 
-fn write_word(x: Accessed, a: u16, value: u16) -> Transferred
-    ensures { λ r. ⌜ r ≡ def.wordWritten x a value ⌝ }
+// What is to be stored, or why it is not.
+fn write(x: Accessed, width: Width, a: u16, value: u16) -> Transferred
+    ensures { λ r. ⌜ r ≡ def.dataWritten width x a value ⌝ }
 {
     let tlb = x.tlb;
     let access = x.access;
     match access {
-        Access::At(at) => transferred(Transfer::Done(0, 0, Store::Word(at, value)), tlb),
-        Access::Fails(why) => transferred(Transfer::Fails(why, a), tlb),
-    }
-}
-
-fn write_byte(x: Accessed, a: u16, value: u16) -> Transferred
-    ensures { λ r. ⌜ r ≡ def.byteWritten x a value ⌝ }
-{
-    let tlb = x.tlb;
-    let access = x.access;
-    match access {
-        Access::At(at) => transferred(Transfer::Done(0, 0, Store::Byte(at, value)), tlb),
+        Access::At(at) => transferred(Transfer::Done(0, 0, Store::At(width, at, value)), tlb),
         Access::Fails(why) => transferred(Transfer::Fails(why, a), tlb),
     }
 }
@@ -113,10 +93,17 @@ pub fn transfer_for(need: Need, on: bool, tlb: [u32; 8], mem: &[u8], value: u16)
 {
     match need {
         Need::Value(v) => transferred(Transfer::Done(v, 0, Store::Nothing), tlb),
-        Need::ReadWord(a) => read_word(word_access(on, tlb, Right::Read, a), mem, a),
-        Need::ReadByte(a) => read_byte(byte_access(on, tlb, Right::Read, a), mem, a),
-        Need::ReadTwo(a) => read_two(on, word_access(on, tlb, Right::Read, a), mem, a),
-        Need::WriteWord(a) => write_word(word_access(on, tlb, Right::Write, a), a, value),
-        Need::WriteByte(a) => write_byte(byte_access(on, tlb, Right::Write, a), a, value),
+        Need::Read(width, a) => {
+            let x = try_access(width, on, tlb, Right::Read, a);
+            read(x, mem, width, a)
+        }
+        Need::ReadTwo(a) => {
+            let x = try_access(Width::Word, on, tlb, Right::Read, a);
+            read_two(on, x, mem, a)
+        }
+        Need::Write(width, a) => {
+            let x = try_access(width, on, tlb, Right::Write, a);
+            write(x, width, a, value)
+        }
     }
 }

@@ -8,15 +8,14 @@ use memory::Store;
 use mmu::Fault;
 pub use stores::store_need;
 pub use stores::value_stored;
+use word::Width;
 
-// The data access of an instruction: a value that needs none, or the logical address of a word or a byte, or of the first of two words.
+// The data access of an instruction: a value that needs none, or the logical address of what is read or written, or of the first of two words.
 pub enum Need {
     Value(u16),
-    ReadWord(u16),
-    ReadByte(u16),
+    Read(Width, u16),
     ReadTwo(u16),
-    WriteWord(u16),
-    WriteByte(u16),
+    Write(Width, u16),
 }
 
 // The data access done: the operand's value, the second word of two, and what is to be stored; or why the access to a logical address is not

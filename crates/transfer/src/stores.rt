@@ -4,22 +4,30 @@ ghost use Rattle.transfer.specs.Need as def;
 use crate::Need;
 use decode::Operand;
 use decode::code::CALL;
+use word::Width;
+
+// What an operand in memory is: a byte in mode 7, a word in the others.
+fn width_of(operand: Operand) -> Width
+    ensures { λ r. ⌜ r ≡ def.widthOf operand ⌝ }
+{
+    match operand {
+        Operand::Direct(_) => Width::Word,
+        Operand::Indexed(_, _) => Width::Word,
+        Operand::Immediate(_) => Width::Word,
+        Operand::Frame(_) => Width::Word,
+        Operand::Register(_) => Width::Word,
+        Operand::Short(_) => Width::Word,
+        Operand::Indirect(_) => Width::Word,
+        Operand::ByteIndirect(_) => Width::Byte,
+        Operand::Nothing => Width::Word,
+    }
+}
 
 // The place of ST.
 pub fn store_need(a: u16, operand: Operand) -> Need
     ensures { λ r. ⌜ r ≡ def.storeNeed a operand ⌝ }
 {
-    match operand {
-        Operand::Direct(_) => Need::WriteWord(a),
-        Operand::Indexed(_, _) => Need::WriteWord(a),
-        Operand::Immediate(_) => Need::WriteWord(a),
-        Operand::Frame(_) => Need::WriteWord(a),
-        Operand::Register(_) => Need::WriteWord(a),
-        Operand::Short(_) => Need::WriteWord(a),
-        Operand::Indirect(_) => Need::WriteWord(a),
-        Operand::ByteIndirect(_) => Need::WriteByte(a),
-        Operand::Nothing => Need::WriteWord(a),
-    }
+    Need::Write(width_of(operand), a)
 }
 
 // What an instruction stores.

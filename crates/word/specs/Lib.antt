@@ -1,4 +1,5 @@
 pub mod Cases
 pub mod Laws
 pub mod Signed
+pub mod Width
 pub mod Word

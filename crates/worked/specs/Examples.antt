@@ -14,7 +14,7 @@ use Rattle.status.specs.Saved.{pushed}
 use Rattle.machine.specs.Execute.{afterOperation, bodyOf, eventOf}
 use Rattle.plan.specs.Result.{aluOf}
 use Rattle.status.specs.Flag.{flagWord}
-use Rattle.transfer.specs.Need.{addressOf, loadNeed, needOf, storeNeed, valueStored}
+use Rattle.transfer.specs.Need.{addressOf, loadNeed, needOf, valueStored}
 use Rattle.machine.specs.Plan.{planFetch, planFirst, planOf, planOperand, planSecond}
 use Rattle.status.specs.Lines.{interruptIn}
 use Rattle.plan.specs.End.{endOf}
@@ -23,7 +23,7 @@ use Rattle.machine.specs.Register.{regIn, regsAfter, spIn, sspAfter, sspWith, u
 use Rattle.machine.specs.Step.{commit, stepOf}
 use Rattle.transfer.specs.Transfer.{transferOf}
 use Rattle.machine.specs.declared.Event.the-variants.{Entered, Executed, Halted, Lost}
-use Rattle.mmu.specs.Access.{byEntry, byTlb, byteAccess, wordAccess}
+use Rattle.mmu.specs.Access.{accessOf, alignedAccess, byEntry, byTlb}
 use Rattle.mmu.specs.Lookup.{lookupFrom, lookupOf}
 use Rattle.memory.specs.Memory.{stored}
 use Rattle.alu.specs.Alu.{addOf, addsOf, andOf, divOf, modOf, mulOf, orOf, shlOf, shraOf, shrlOf, subOf, xorOf}
@@ -40,8 +40,8 @@ pub examples : map stepped all ≡ map expected all
 unfolding starred misreadings results pages entries memoryOf stateOf conditionFrom valueOf valuesOf vectorsFrom
     addOf addsOf andOf divOf modOf mulOf orOf shlOf shraOf shrlOf subOf xorOf conditionOf conditionUndefined signed4
     fieldsBad firstOf hasSecond operandOf usesRx addStates costOf divStates eight inModes inRows modeBits opcodeOf row rows shiftStates single statesAt
-    enterOf pushed afterOperation aluOf bodyOf eventOf flagWord stored byEntry byTlb byteAccess lookupFrom lookupOf wordAccess transferOf
-    addressOf loadNeed needOf storeNeed valueStored endOf interruptIn planFetch planFirst planOf planOperand planSecond trailingZeros
+    enterOf pushed afterOperation aluOf bodyOf eventOf flagWord stored accessOf alignedAccess byEntry byTlb lookupFrom lookupOf transferOf
+    addressOf loadNeed needOf valueStored endOf interruptIn planFetch planFirst planOf planOperand planSecond trailingZeros
     causeAfter mmuAfter outputAfter portIn tlbAfter tlbPort regIn regsAfter spIn sspAfter sspWith uspAfter uspWith commit stepOf
 examples = refl
 

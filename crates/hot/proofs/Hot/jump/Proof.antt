@@ -8,7 +8,7 @@ use Rattle.mmu.specs.declared.Right.the-variants.{Execute}
 use Rattle.word.specs.Word.{plus}
 use Rattle.pages.specs.Accesses.{Reads}
 use Rattle.pages.specs.Maps.{word-placed}
-use Rattle.pages.specs.declared.Width.the-variants.{Word}
+use Rattle.word.specs.declared.Width.the-variants.{Word}
 use Rattle.hot.specs.Moves.{jump-tells, pass-tells}
 use Rattle.hot.specs.Tells.{stop}
 use Rattle.hot.proofs.Hot.jump.Statement.{statement}

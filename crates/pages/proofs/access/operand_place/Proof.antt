@@ -2,7 +2,7 @@
 -- Assumes nothing.
 use native.Mathlib.Omega.{arith}
 use borrow.Author.Needs.{needs}
-use Rattle.pages.specs.Maps.{some-bytes}
+use Rattle.word.specs.Width.{some-bytes}
 use Rattle.pages.proofs.access.operand_place.Statement.{statement}
 use Rattle.pages.proofs.access.operand_place.Tie as tie
 

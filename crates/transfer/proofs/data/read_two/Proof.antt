@@ -10,8 +10,8 @@ enum-known-access c = search needs
 plus-requires : tie.Need-plus-requires
 plus-requires c κs = search needs
 
-word-access-requires : tie.Need-word-access-requires
-word-access-requires c κs = search needs
+try-access-requires : tie.Need-try-access-requires
+try-access-requires c κs = search needs
 
 word-at-requires : tie.Need-word-at-requires
 word-at-requires c κs = search needs
@@ -31,7 +31,7 @@ returns c =
       c .before .before .before .before .before .access .given .1,
       c .read-second .ensures,
       c .before .word-at .ensures,
-      c .before .before .word-access .ensures,
+      c .before .before .try-access .ensures,
       c .before .before .before .plus .ensures,
     )
 
@@ -44,7 +44,7 @@ read-two-spec =
     (tie.spec
     enum-known-access
     plus-requires
-    word-access-requires
+    try-access-requires
     word-at-requires
     read-second-requires
     enum-known-access-2

@@ -1,14 +1,11 @@
--- `transfer::data::read_word` meets its contract.
+-- `transfer::data::write` meets its contract.
 -- Assumes nothing.
 use borrow.Author.Needs.{needs}
-use Rattle.transfer.proofs.data.read_word.Statement.{statement}
-use Rattle.transfer.proofs.data.read_word.Tie as tie
+use Rattle.transfer.proofs.data.write.Statement.{statement}
+use Rattle.transfer.proofs.data.write.Tie as tie
 
 enum-known-access : tie.Need-enum-known-access
 enum-known-access c = search needs
-
-word-at-requires : tie.Need-word-at-requires
-word-at-requires c κs = search needs
 
 transferred-requires : tie.Need-transferred-requires
 transferred-requires c κs = search needs
@@ -20,17 +17,16 @@ transferred-requires-2 : tie.Need-transferred-requires-2
 transferred-requires-2 c κs = search needs
 
 returns : tie.Need-returns
-returns c = rw (c .transferred .ensures, c .before .word-at .ensures, c .before .before .before .access .given .1)
+returns c = rw (c .transferred .ensures, c .before .before .access .given .1)
 
 returns-2 : tie.Need-returns-2
 returns-2 c = rw (c .transferred2 .ensures, c .before .before .access2 .given .1)
 
-pub read-word-spec : {M : Type 1} → statement M
-read-word-spec =
+pub write-spec : {M : Type 1} → statement M
+write-spec =
     tie.close
     (tie.spec
     enum-known-access
-    word-at-requires
     transferred-requires
     enum-known-access-2
     transferred-requires-2
