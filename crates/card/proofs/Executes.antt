@@ -12,6 +12,7 @@ use Rattle.refusal.specs.declared.Validity.{Validity}
 use Rattle.report.specs.Layout.{reportSize}
 use Rattle.command.specs.Card.{isRun, readFrom, reading, runsIn}
 use Rattle.card.specs.Effect.{behind, Effect, effect, effectOf, executeOf}
+use Rattle.card.specs.Inside.{cardEffect, filledOf, replaced}
 use Rattle.card.specs.Laws.{reports-long}
 use Rattle.card.specs.declared.Progress.{Progress}
 use Rattle.command.specs.declared.Command.{Command}
@@ -27,7 +28,7 @@ abbrev pub Did : Command → State → List ℕ → List ℕ → ℕ → Progres
 Did x st m rep filled a m′ rep′ =
     (a ≡ progress ((effectOf x st m) .state) (filled + reportSize * isRun x))
     × ((m′ ≡ (effectOf x st m) .memory)
-    × (rep′ ≡ take filled rep ++ ((effectOf x st m) .reports ++ drop (filled + reportSize * isRun x) rep)))
+    × (rep′ ≡ replaced rep filled (reportSize * isRun x) ((effectOf x st m) .reports)))
 
 -- a command that is no run writes no report
 module _ {x y : Command} (st : State) {st′ : State} (m : List ℕ) {m′ : List ℕ} (rep : List ℕ) (filled : ℕ) where
@@ -38,16 +39,16 @@ module _ {x y : Command} (st : State) {st′ : State} (m : List ℕ) {m′ : Lis
 
 -- the invariant: the commands in front of the position are done, their reports are in the report's first `filled` bytes
 pub record Executing (card : List ℕ) (st₀ : State) (m₀ rep₀ : List ℕ) (at filled : ℕ) (st : State) (m rep : List ℕ) : Type 0 where
-  pub whole : executeOf ((readFrom card 0) .commands) st₀ m₀ ≡ behind (take filled rep) (executeOf ((readFrom card at) .commands) st m)
+  pub whole : cardEffect card st₀ m₀ ≡ behind (take filled rep) (executeOf ((readFrom card at) .commands) st m)
   pub kept : drop filled rep ≡ drop filled rep₀
   pub size : length m ≡ 65536
   pub long : length rep ≡ length rep₀
   pub within : at ≤ length card
-  pub total : reportSize * runsIn ((readFrom card 0) .commands) ≡ filled + reportSize * runsIn ((readFrom card at) .commands)
-  pub room : reportSize * runsIn ((readFrom card 0) .commands) ≤ length rep₀
+  pub total : filledOf card ≡ filled + reportSize * runsIn ((readFrom card at) .commands)
+  pub room : filledOf card ≤ length rep₀
 
 pub start :
-    (card : List ℕ) (st : State) (m rep : List ℕ) → length m ≡ 65536 → reportSize * runsIn ((readFrom card 0) .commands) ≤ length rep
+    (card : List ℕ) (st : State) (m rep : List ℕ) → length m ≡ 65536 → filledOf card ≤ length rep
     → Executing card st m rep 0 0 st m rep
 start card st m rep s r =
     record { whole = refl; kept = refl; size = s; long = refl; within = omega arith; total = omega arith; room = r }
@@ -55,16 +56,16 @@ start card st m rep s r =
 module _ {card : List ℕ} {st₀ : State} {m₀ rep₀ : List ℕ} {at filled : ℕ} {st : State} {m rep : List ℕ}
     (so-far : Executing card st₀ m₀ rep₀ at filled st m rep) where
   abbrev all : Effect
-  all = executeOf ((readFrom card 0) .commands) st₀ m₀
+  all = cardEffect card st₀ m₀
 
   -- nothing more is read
   pub ended :
       {v : Validity} → readFrom card at ≡ reading [] v
-      → (st ≡ all .state) × ((m ≡ all .memory) × (rep ≡ all .reports ++ drop (reportSize * runsIn ((readFrom card 0) .commands)) rep₀))
+      → (st ≡ all .state) × ((m ≡ all .memory) × (rep ≡ all .reports ++ drop (filledOf card) rep₀))
   unfolding executeOf runsIn
   ended e =
       let done : all ≡ effect st m (take filled rep ++ []) = so-far .whole ∙ rw e in
-      let total : reportSize * runsIn ((readFrom card 0) .commands) ≡ filled = so-far .total ∙ rw e (add-zero filled) in
+      let total : filledOf card ≡ filled = so-far .total ∙ rw e (add-zero filled) in
       rw (done, total, append-nil, ← so-far .kept) (refl, (refl, sym (take-append-drop filled rep)))
 
   module _ {x : Command} {next : ℕ} (turn : Turn card at x next) where

@@ -1,4 +1,5 @@
 pub mod Call
 pub mod Effect
+pub mod Inside
 pub mod Laws
 pub mod Passed

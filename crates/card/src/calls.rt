@@ -1,26 +1,25 @@
 // A card's call on lent buffers.
 ghost use mathlib.Core.List.{_++_};
 ghost use mathlib.Core.Path.{_≡_};
-ghost use Prim.Native.Nat.{_*_, _≤_};
+ghost use Prim.Native.Nat.{_≤_};
 ghost use lib.ListN.{drop, length};
 ghost use Rattle.card.specs.Call as def;
-ghost use Rattle.command.specs.Card.{cardSize, readFrom, runsIn};
-ghost use Rattle.card.specs.Effect.{executeOf};
+ghost use Rattle.card.specs.Inside.{cardEffect, filledOf};
+ghost use Rattle.command.specs.Card.{cardSize};
 ghost use Rattle.image.specs.Decode.{stateFrom};
 ghost use Rattle.image.specs.Image.{imageOf};
 ghost use Rattle.layout.specs.Layout.{imageSize};
 ghost use Rattle.refusal.specs.Call.{called};
-ghost use Rattle.report.specs.Layout.{reportSize};
 use crate::effects::execute;
 use crate::validity::validate;
 use refusal::Validity;
 
 // A card on buffers that are valid.
 fn execute_valid(memory: &mut [u8], image: &mut [u8], card: &[u8], report: &mut [u8])
-    requires { ⌜ (length (now memory) ≡ 65536) × (length (now image) ≡ imageSize) × (length (now card) ≤ cardSize) × (reportSize * runsIn ((readFrom (now card) 0) .commands) ≤ length (now report)) ⌝ }
-    ensures memory { λ _. ⌜ now (memory .exit) ≡ (executeOf ((readFrom (now (card .entry)) 0) .commands) (stateFrom (now (image .entry))) (now (memory .entry))) .memory ⌝ }
-    ensures image { λ _. ⌜ now (image .exit) ≡ imageOf ((executeOf ((readFrom (now (card .entry)) 0) .commands) (stateFrom (now (image .entry))) (now (memory .entry))) .state) ⌝ }
-    ensures report { λ _. ⌜ now (report .exit) ≡ (executeOf ((readFrom (now (card .entry)) 0) .commands) (stateFrom (now (image .entry))) (now (memory .entry))) .reports ++ drop (reportSize * runsIn ((readFrom (now (card .entry)) 0) .commands)) (now (report .entry)) ⌝ }
+    requires { ⌜ (length (now memory) ≡ 65536) × (length (now image) ≡ imageSize) × (length (now card) ≤ cardSize) × (filledOf (now card) ≤ length (now report)) ⌝ }
+    ensures memory { λ _. ⌜ now (memory .exit) ≡ (cardEffect (now (card .entry)) (stateFrom (now (image .entry))) (now (memory .entry))) .memory ⌝ }
+    ensures image { λ _. ⌜ now (image .exit) ≡ imageOf ((cardEffect (now (card .entry)) (stateFrom (now (image .entry))) (now (memory .entry))) .state) ⌝ }
+    ensures report { λ _. ⌜ now (report .exit) ≡ (cardEffect (now (card .entry)) (stateFrom (now (image .entry))) (now (memory .entry))) .reports ++ drop (filledOf (now (card .entry))) (now (report .entry)) ⌝ }
 {
     let state = image::read_image(image);
     let last = execute(state, memory, card, report);

@@ -2,9 +2,10 @@
 ghost use mathlib.Core.List.{_++_};
 ghost use mathlib.Core.Path.{_≡_};
 ghost use Prim.Native.Nat.{_*_, _+_, _≤_};
-ghost use lib.ListN.{drop, length, set, take};
-ghost use Rattle.command.specs.Card.{cardSize, isRun, readFrom, runsIn};
+ghost use lib.ListN.{drop, length, set};
+ghost use Rattle.command.specs.Card.{cardSize, isRun};
 ghost use Rattle.card.specs.Effect as def;
+ghost use Rattle.card.specs.Inside.{cardEffect, filledOf, replaced};
 ghost use Rattle.decode.specs.Entry.{tableOf};
 ghost use Rattle.report.specs.Layout.{reportSize};
 ghost use Rattle.report.specs.Report.{reportOfRan};
@@ -37,7 +38,7 @@ fn run_with_report(
     requires { ⌜ (length (now memory) ≡ 65536) × (filled + reportSize ≤ length (now report)) × (now table ≡ tableOf) ⌝ }
     ensures state { λ r. ⌜ r ≡ (runOf allowance state (now (memory .entry))) .state ⌝ }
     ensures memory { λ _. ⌜ now (memory .exit) ≡ (runOf allowance state (now (memory .entry))) .memory ⌝ }
-    ensures report { λ _. ⌜ now (report .exit) ≡ take filled (now (report .entry)) ++ (reportOfRan (runOf allowance state (now (memory .entry))) ++ drop (filled + reportSize) (now (report .entry))) ⌝ }
+    ensures report { λ _. ⌜ now (report .exit) ≡ replaced (now (report .entry)) filled reportSize (reportOfRan (runOf allowance state (now (memory .entry)))) ⌝ }
 {
     let finished = runner::run(state, memory, allowance, table);
     let last = finished.state;
@@ -66,7 +67,7 @@ fn execute_command(
     requires { ⌜ (length (now memory) ≡ 65536) × (filled + reportSize * isRun command ≤ length (now report)) × (now table ≡ tableOf) ⌝ }
     ensures answer { λ r. ⌜ r ≡ record { state = (def.effectOf command state (now (memory .entry))) .state; filled = filled + reportSize * isRun command } ⌝ }
     ensures memory { λ _. ⌜ now (memory .exit) ≡ (def.effectOf command state (now (memory .entry))) .memory ⌝ }
-    ensures report { λ _. ⌜ now (report .exit) ≡ take filled (now (report .entry)) ++ ((def.effectOf command state (now (memory .entry))) .reports ++ drop (filled + reportSize * isRun command) (now (report .entry))) ⌝ }
+    ensures report { λ _. ⌜ now (report .exit) ≡ replaced (now (report .entry)) filled (reportSize * isRun command) ((def.effectOf command state (now (memory .entry))) .reports) ⌝ }
 {
     match command {
         Command::Byte(address, value) => {
@@ -102,10 +103,10 @@ fn execute_command(
 
 // The commands of a card, one after the other, to its end or to a bad one.
 pub fn execute(first: State, memory: &mut [u8], card: &[u8], report: &mut [u8]) -> State
-    requires { ⌜ (length (now memory) ≡ 65536) × (length (now card) ≤ cardSize) × (reportSize * runsIn ((readFrom (now card) 0) .commands) ≤ length (now report)) ⌝ }
-    ensures state { λ r. ⌜ r ≡ (def.executeOf ((readFrom (now (card .entry)) 0) .commands) first (now (memory .entry))) .state ⌝ }
-    ensures memory { λ _. ⌜ now (memory .exit) ≡ (def.executeOf ((readFrom (now (card .entry)) 0) .commands) first (now (memory .entry))) .memory ⌝ }
-    ensures report { λ _. ⌜ now (report .exit) ≡ (def.executeOf ((readFrom (now (card .entry)) 0) .commands) first (now (memory .entry))) .reports ++ drop (reportSize * runsIn ((readFrom (now (card .entry)) 0) .commands)) (now (report .entry)) ⌝ }
+    requires { ⌜ (length (now memory) ≡ 65536) × (length (now card) ≤ cardSize) × (filledOf (now card) ≤ length (now report)) ⌝ }
+    ensures state { λ r. ⌜ r ≡ (cardEffect (now (card .entry)) first (now (memory .entry))) .state ⌝ }
+    ensures memory { λ _. ⌜ now (memory .exit) ≡ (cardEffect (now (card .entry)) first (now (memory .entry))) .memory ⌝ }
+    ensures report { λ _. ⌜ now (report .exit) ≡ (cardEffect (now (card .entry)) first (now (memory .entry))) .reports ++ drop (filledOf (now (card .entry))) (now (report .entry)) ⌝ }
 {
     let table = decode::entries();
     let mut at = 0;

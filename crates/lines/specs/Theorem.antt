@@ -12,7 +12,7 @@ use lib.Seq.{drop-at, drop-drop, getD-take, take-at}
 use Rattle.report.specs.Layout.{endingAt, flagAt, numberAt, pcAt, reportSize, statesAt, stepsAt}
 use Rattle.endian.specs.Bytes.{wordFrom}
 use Rattle.word.specs.Cases.{both, either, rest, this}
-use Rattle.listing.specs.Listing.{endingText, lineOf, linesOf, listingOf, newline, numberText, runsText, space}
+use Rattle.listing.specs.Listing.{countsText, endingText, lineOf, linesOf, listingOf, newline, numberText, outcomeText, runsText, space}
 use Rattle.text.specs.Text.{ascii, decimalOf, digitOf, hexOf}
 use Rattle.lines.specs.Statement.{Reports, firstLine, isNewline, laterLines, reportAt, textLine}
 
@@ -101,21 +101,20 @@ number-unbroken : (n : ℕ) → Unbroken (numberText n)
 unfolding numberText unbroken
 number-unbroken n = either Unbroken (eqb n 255) (λ _. refl) (λ _. decimal-unbroken 3 n)
 
+-- two words, each with a space behind it
+two-unbroken : (x y : List ℕ) → Unbroken x → Unbroken y → Unbroken (x ++ (space ++ (y ++ space)))
+unfolding unbroken
+two-unbroken x y p q = unbroken-both x (space ++ (y ++ space)) p (unbroken-both space (y ++ space) refl (unbroken-both y space q refl))
+
 line-is-line : (r : List ℕ) → IsLine (lineOf r)
 unfolding lineOf unbroken
 line-is-line r =
     let states : ℕ = wordFrom r statesAt * 65536 + wordFrom r (statesAt + 2) in
-    before (endingText (getD r endingAt 0)) (ending-unbroken (getD r endingAt 0))
-    (before space refl
-    (before (numberText (getD r numberAt 0)) (number-unbroken (getD r numberAt 0))
-    (before space refl
-    (before (decimalOf 5 (wordFrom r stepsAt)) (decimal-unbroken 5 (wordFrom r stepsAt))
-    (before space refl
-    (before (decimalOf 10 states) (decimal-unbroken 10 states)
-    (before space refl
+    before (outcomeText r) (two-unbroken (endingText (getD r endingAt 0)) (numberText (getD r numberAt 0)) (ending-unbroken _) (number-unbroken _))
+    (before (countsText r) (two-unbroken (decimalOf 5 (wordFrom r stepsAt)) (decimalOf 10 states) (decimal-unbroken 5 _) (decimal-unbroken 10 states))
     (before (hexOf (wordFrom r pcAt)) (hex-unbroken (wordFrom r pcAt))
     (before space refl
-    (before (hexOf (wordFrom r flagAt)) (hex-unbroken (wordFrom r flagAt)) end-line))))))))))
+    (before (hexOf (wordFrom r flagAt)) (hex-unbroken (wordFrom r flagAt)) end-line))))
 
 runs-is-line : (n : ℕ) → IsLine (runsText n)
 unfolding runsText unbroken

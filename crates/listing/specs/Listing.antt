@@ -20,25 +20,27 @@ newline = ascii "\n"
 unfoldable pub endingText : ℕ → List ℕ
 endingText n = cond (eqb n 0) (ascii "spent") (cond (eqb n 1) (ascii "entered") (cond (eqb n 2) (ascii "halted") (ascii "lost")))
 
--- "number or `-`", where FFh is no number
+-- "number or `-`", where FFh is no number; a byte has at most 3 decimal digits
 unfoldable pub numberText : ℕ → List ℕ
 numberText n = cond (eqb n 255) (ascii "-") (decimalOf 3 n)
 
--- the line of a run, from the 12 bytes at the front of a report: a byte has at most 3 decimal digits, a word 5, 32 bits 10
+-- "ending, number or `-`", from the 12 bytes at the front of a report
+abbrev pub outcomeText : List ℕ → List ℕ
+outcomeText r = endingText (getD r endingAt 0) ++ (space ++ (numberText (getD r numberAt 0) ++ space))
+
+-- "steps, states": a word has at most 5 decimal digits, 32 bits 10
+abbrev pub countsText : List ℕ → List ℕ
+countsText r =
+    decimalOf 5 (wordFrom r stepsAt)
+    ++ (space ++ (decimalOf 10 (wordFrom r statesAt * 65536 + wordFrom r (statesAt + 2)) ++ space))
+
+-- "PC, FLAG (four digits, capitals)"
+abbrev pub registersText : List ℕ → List ℕ
+registersText r = hexOf (wordFrom r pcAt) ++ (space ++ (hexOf (wordFrom r flagAt) ++ newline))
+
+-- the line of a run
 unfoldable pub lineOf : List ℕ → List ℕ
-lineOf r =
-    endingText (getD r endingAt 0)
-    ++ (space
-    ++ (numberText (getD r numberAt 0)
-    ++ (space
-    ++ (decimalOf 5 (wordFrom r stepsAt)
-    ++ (space
-    ++ (decimalOf 10 (wordFrom r statesAt * 65536 + wordFrom r (statesAt + 2))
-    ++ (space
-    ++ (hexOf (wordFrom r pcAt)
-    ++ (space
-    ++ (hexOf (wordFrom r flagAt)
-    ++ newline))))))))))
+lineOf r = outcomeText r ++ (countsText r ++ registersText r)
 
 -- the lines of the first `n` runs of a report
 unfoldable pub linesOf : ℕ → List ℕ → List ℕ

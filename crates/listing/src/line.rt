@@ -1,11 +1,8 @@
 // The line of a run.
-ghost use mathlib.Core.List.{_++_};
-ghost use Prim.Native.Nat.{_*_, _+_, _≤_};
-ghost use lib.ListN.{getD, length};
-ghost use Rattle.report.specs.Layout.{endingAt, flagAt, numberAt, pcAt, reportSize, statesAt, stepsAt};
-ghost use Rattle.endian.specs.Bytes.{wordFrom};
+ghost use Prim.Native.Nat.{_≤_};
+ghost use lib.ListN.{length};
+ghost use Rattle.report.specs.Layout.{reportSize};
 ghost use Rattle.listing.specs.Listing as def;
-ghost use Rattle.text.specs.Text.{decimalOf, hexOf};
 ghost use Rattle.text.specs.Written.{WroteText};
 use endian::word_from;
 use report::ENDING;
@@ -46,7 +43,7 @@ fn put_number(text: &mut [u8], at: usize, number: u8) -> usize
 // How the run at the front of a report ended.
 fn put_outcome(text: &mut [u8], from: usize, report: &[u8]) -> usize
     requires { ⌜ (from ≤ length (now text)) × (reportSize ≤ length (now report)) ⌝ }
-    ensures { λ r. ⌜ WroteText (now (text .entry)) (now (text .exit)) from r (def.endingText (getD (now (report .entry)) endingAt 0) ++ (def.space ++ (def.numberText (getD (now (report .entry)) numberAt 0) ++ def.space))) ⌝ }
+    ensures { λ r. ⌜ WroteText (now (text .entry)) (now (text .exit)) from r (def.outcomeText (now (report .entry))) ⌝ }
 {
     let mut at = put_ending(text, from, report[ENDING]);
     at = put(text, at, b' ');
@@ -57,7 +54,7 @@ fn put_outcome(text: &mut [u8], from: usize, report: &[u8]) -> usize
 // Its steps and states.
 fn put_counts(text: &mut [u8], from: usize, report: &[u8]) -> usize
     requires { ⌜ (from ≤ length (now text)) × (reportSize ≤ length (now report)) ⌝ }
-    ensures { λ r. ⌜ WroteText (now (text .entry)) (now (text .exit)) from r (decimalOf 5 (wordFrom (now (report .entry)) stepsAt) ++ (def.space ++ (decimalOf 10 (wordFrom (now (report .entry)) statesAt * 65536 + wordFrom (now (report .entry)) (statesAt + 2)) ++ def.space))) ⌝ }
+    ensures { λ r. ⌜ WroteText (now (text .entry)) (now (text .exit)) from r (def.countsText (now (report .entry))) ⌝ }
 {
     let steps = word_from(report, STEPS);
     let high = word_from(report, STATES);
@@ -71,7 +68,7 @@ fn put_counts(text: &mut [u8], from: usize, report: &[u8]) -> usize
 // Its PC and FLAG, which end the line.
 fn put_registers(text: &mut [u8], from: usize, report: &[u8]) -> usize
     requires { ⌜ (from ≤ length (now text)) × (reportSize ≤ length (now report)) ⌝ }
-    ensures { λ r. ⌜ WroteText (now (text .entry)) (now (text .exit)) from r (hexOf (wordFrom (now (report .entry)) pcAt) ++ (def.space ++ (hexOf (wordFrom (now (report .entry)) flagAt) ++ def.newline))) ⌝ }
+    ensures { λ r. ⌜ WroteText (now (text .entry)) (now (text .exit)) from r (def.registersText (now (report .entry))) ⌝ }
 {
     let pc = word_from(report, PC);
     let flag = word_from(report, FLAG);

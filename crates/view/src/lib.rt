@@ -1,15 +1,14 @@
 // A view: the report of a run of no step, on buffers that the caller lends.
-ghost use mathlib.Core.List.{_++_};
+ghost use mathlib.Core.List.{List, _++_};
 ghost use mathlib.Core.Path.{_≡_};
-ghost use Prim.Native.Nat.{_≤_};
+ghost use Prim.Native.Nat.{ℕ, _≤_};
 ghost use lib.ListN.{drop, length};
 ghost use Rattle.image.specs.Decode.{stateFrom};
 ghost use Rattle.layout.specs.Layout.{imageSize};
-ghost use Rattle.machine.specs.Flag.{flagOf};
-ghost use Rattle.machine.specs.Run.{stoppedEnding};
+ghost use Rattle.machine.specs.Run.{runOf, stoppedEnding};
 ghost use Rattle.refusal.specs.Call.{called};
 ghost use Rattle.report.specs.Layout.{reportSize};
-ghost use Rattle.report.specs.Report.{reportOf};
+ghost use Rattle.report.specs.Report.{reportOfRan};
 ghost use Rattle.view.specs.Call as def;
 use machine::Condition;
 use machine::Ending;
@@ -37,10 +36,10 @@ fn stopped_ending(condition: Condition) -> Ending
     }
 }
 
-// A view of an image that is valid.
+// A view of an image that is valid, whatever the memory is.
 fn view_valid(image: &[u8], report: &mut [u8])
     requires { ⌜ (length (now image) ≡ imageSize) × (reportSize ≤ length (now report)) ⌝ }
-    ensures { λ _. ⌜ now (report .exit) ≡ reportOf (stoppedEnding ((stateFrom (now (image .entry))) .condition)) ((stateFrom (now (image .entry))) .pc) (flagOf (stateFrom (now (image .entry)))) 0 0 ++ drop reportSize (now (report .entry)) ⌝ }
+    ensures { λ _. ⌜ ((m : List ℕ) → now (report .exit) ≡ reportOfRan (runOf 0 (stateFrom (now (image .entry))) m) ++ drop reportSize (now (report .entry))) ⌝ }
 {
     let state = image::read_image(image);
     let condition = state.condition;

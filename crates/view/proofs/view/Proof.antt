@@ -1,10 +1,9 @@
 -- `view::view` meets its contract.
 -- Assumes nothing.
 use mathlib.Core.Path.{refl, sym, _∙_}
-use Rattle.image.specs.Decode.{stateFrom}
 use Rattle.refusal.specs.Call.{called-is}
 use Rattle.view.specs.Call.{viewCall}
-use Rattle.view.specs.Valid.{no-step, passed}
+use Rattle.view.specs.Valid.{passed}
 use borrow.Author.Needs.{needs}
 use Rattle.view.proofs.view.Statement.{statement}
 use Rattle.view.proofs.view.Tie as tie
@@ -40,8 +39,8 @@ returns-2 c =
     let told = c .before .before .before .before in
     let checked = told .before .before in
     let start = checked .before .before .before .before in
-    rw (← checked .validate .ensures, told .enum-told .given .1, no-step (stateFrom (start .args .image .now)) (start .args .memory .now))
-    (called-is _ refl refl refl (c .before .before .view-valid .ensures))
+    rw (← checked .validate .ensures, told .enum-told .given .1)
+    (called-is _ refl refl refl (c .before .before .view-valid .ensures (start .args .memory .now)))
 
 pub view-spec : {M : Type 1} → statement M
 view-spec =

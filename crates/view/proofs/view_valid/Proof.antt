@@ -1,6 +1,7 @@
 -- `view::view_valid` meets its contract.
 -- Assumes nothing.
 use borrow.Author.Needs.{needs}
+use Rattle.view.specs.Valid.{no-step}
 use Rattle.view.proofs.view_valid.Statement.{statement}
 use Rattle.view.proofs.view_valid.Tie as tie
 
@@ -20,9 +21,9 @@ same-length : tie.Need-same-length
 same-length c = search needs
 
 returns : tie.Need-returns
-returns c =
+returns c m =
     let read = c .before .before .before .before .before .before .before in
-    rw (← read .read-image .ensures, ← c .before .before .before .before .stopped-ending .ensures, ← c .before .before .before .word .ensures)
+    rw (no-step, ← read .read-image .ensures, ← c .before .before .before .before .stopped-ending .ensures, ← c .before .before .before .word .ensures)
     (c .before .before .write-report .ensures)
 
 pub view-valid-spec : {M : Type 1} → statement M

@@ -29,7 +29,9 @@ returns : tie.Need-returns
 returns c =
     let called = c .before .before .before .before .before .before .before .before in
     let did = called .perform .ensures in
-    (part-holds _ _ _ _ _ _ _ (c .before .filled-by .ensures) (ap (λ (x : Call). x .answer) did) (ap (λ (x : Call). x .report) did), (ap (λ (x : Call). x .answer) did, (ap (λ (x : Call). x .memory) did, ap (λ (x : Call). x .image) did)))
+    let answer = ap (λ (x : Call). x .answer) did in
+    let part = part-holds _ _ _ _ _ _ _ (c .before .filled-by .ensures) answer (ap (λ (x : Call). x .report) did) in
+    (part, (answer, (ap (λ (x : Call). x .memory) did, ap (λ (x : Call). x .image) did)))
 
 pub run-card-spec : {M : Type 1} → statement M
 run-card-spec =

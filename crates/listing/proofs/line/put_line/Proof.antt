@@ -1,6 +1,5 @@
 -- `listing::line::put_line` meets its contract.
 -- Assumes nothing.
-use mathlib.Core.List.{append-assoc}
 use borrow.Author.Needs.{needs}
 use Rattle.listing.specs.Listing.{lineOf}
 use Rattle.text.specs.Wrote.{then}
@@ -23,8 +22,7 @@ returns : tie.Need-returns
 unfolding lineOf
 returns c =
     let counts = c .before .before .before .before .before .before in
-    let line = then (counts .before .before .before .before .put-outcome .ensures) (then (counts .put-counts .ensures) (c .before .before .put-registers .ensures)) in
-    simp append-assoc at line
+    then (counts .before .before .before .before .put-outcome .ensures) (then (counts .put-counts .ensures) (c .before .before .put-registers .ensures))
 
 pub put-line-spec : {M : Type 1} → statement M
 put-line-spec =
