@@ -11,9 +11,15 @@ use Rattle.word.specs.Word.{minus, plus, wrap}
 use Rattle.alu.specs.declared.Alu.{Alu}
 
 -- "set S and Z from the 16-bit result"
+abbrev pub signOf : ℕ → Bool
+signOf result = leb 32768 result
+
+abbrev pub zeroOf : ℕ → Bool
+zeroOf result = eqb result 0
+
 abbrev pub alu : ℕ → Bool → Bool → Alu
 alu result overflow carry =
-    record { value = result; v = overflow; c = carry; s = leb 32768 result; z = eqb result 0 }
+    record { value = result; v = overflow; c = carry; s = signOf result; z = zeroOf result }
 
 -- "V=C=0"
 abbrev pub plain : ℕ → Alu

@@ -17,7 +17,7 @@ use Rattle.status.specs.Flag.{holds}
 use Rattle.word.specs.Word.{minus, plus, upper}
 use Rattle.source.specs.Fields.{modeOf}
 use Rattle.source.specs.Sources.{Named, SourceIs}
-use Rattle.hot.specs.Tells.{Added, Operates, Stored, Stores, Target, Tells, act, called, done, goes, idled, jumped, operated, passed, popped, pushed, returned, stay, stays, stop, stored, to}
+use Rattle.hot.specs.Tells.{Added, Operates, Stored, Stores, Target, Tells, act, called, done, goes, idled, jumped, operated, passed, popped, pushed, returned, sOf, stay, stays, stop, stored, to, zOf}
 use Rattle.hot.specs.declared.Hot.{Hot}
 use Rattle.source.specs.declared.operand.Source.{Source}
 
@@ -30,10 +30,10 @@ module _ (map rs : List ℕ) (size : length rs ≡ 16) (m : List ℕ) (h : Hot) 
     target = record { small = small; added = ad; fetched = fetched }
 
     module _ (code : w / 2048 ≡ JUMP) (n : rdField w ≡ 13 → ⊥) where
-      pub jump-tells : d < 65536 → (a : ℕ) → a ≡ plus d add → holds (conditionOf (rdField w) (h .v) (h .c) (h .s) (h .z)) ≡ true → Tells map rs m h w rs m (to h a 5)
+      pub jump-tells : d < 65536 → (a : ℕ) → a ≡ plus d add → holds (conditionOf (rdField w) (h .v) (h .c) (sOf h) (zOf h)) ≡ true → Tells map rs m h w rs m (to h a 5)
       jump-tells l a q t = done (omega arith) (omega arith) size size (jumped code n target l q t refl refl refl)
 
-      pub pass-tells : (next : ℕ) → next ≡ plus (h .pc) 4 → holds (conditionOf (rdField w) (h .v) (h .c) (h .s) (h .z)) ≡ false → Tells map rs m h w rs m (to h next 4)
+      pub pass-tells : (next : ℕ) → next ≡ plus (h .pc) 4 → holds (conditionOf (rdField w) (h .v) (h .c) (sOf h) (zOf h)) ≡ false → Tells map rs m h w rs m (to h next 4)
       pass-tells next q t = done (omega arith) (omega arith) size size (passed code n target q t refl refl refl)
 
     pub call-tells :

@@ -1,13 +1,13 @@
 -- What one turn of the loop tells: the instruction of the first word was not carried out, and nothing has changed; or it was, by accesses that the
 -- map gives.
 -- Assumes nothing.
-use mathlib.Core.Bool.{false, true}
+use mathlib.Core.Bool.{Bool, false, true}
 use mathlib.Core.List.{List}
 use mathlib.Core.Path.{ap, _∙_, _≡_}
 use Prim.Native.Nat.{ℕ, _%_, _*_, _+_, _/_, _<_}
 use native.Mathlib.Omega.{arith}
 use lib.ListN.{getD, length, set}
-use Rattle.alu.specs.Alu.{places, subOf}
+use Rattle.alu.specs.Alu.{places, signOf, subOf, zeroOf}
 use Rattle.alu.specs.declared.Alu.{Alu}
 use Rattle.decode.specs.Code.{CALL, CMP, JUMP, LD, NO, PUSH, RET, ST}
 use Rattle.decode.specs.Decode.{rdField}
@@ -26,13 +26,20 @@ use Rattle.source.specs.Sources.{Named, Valued}
 use Rattle.hot.specs.declared.Hot.{Hot}
 use Rattle.source.specs.declared.operand.Source.{Source}
 
+-- S and Z
+abbrev pub sOf : Hot → Bool
+sOf h = signOf (h .result)
+
+abbrev pub zOf : Hot → Bool
+zOf h = zeroOf (h .result)
+
 -- to another address, in these states
 abbrev pub to : Hot → ℕ → ℕ → Hot
-to h pc cost = record { pc = pc; v = h .v; c = h .c; s = h .s; z = h .z; cost = cost }
+to h pc cost = record { pc = pc; v = h .v; c = h .c; result = h .result; cost = cost }
 
 -- the flags of a result
 abbrev pub flagged : Alu → ℕ → ℕ → Hot
-flagged a pc cost = record { pc = pc; v = a .v; c = a .c; s = a .s; z = a .z; cost = cost }
+flagged a pc cost = record { pc = pc; v = a .v; c = a .c; result = a .value; cost = cost }
 
 -- ---- LD and ADD to SHRL, with an operand
 
@@ -98,10 +105,10 @@ pub record Target (map rs m : List ℕ) (h : Hot) (w d add : ℕ) : Type 0 where
 pub data Turned (map rs m : List ℕ) (h : Hot) (w : ℕ) (rs′ m′ : List ℕ) (r : Hot) : Type 0 where
   jumped :
       {d add a : ℕ} → w / 2048 ≡ JUMP → (rdField w ≡ 13 → ⊥) → Target map rs m h w d add → d < 65536 → a ≡ plus d add
-      → holds (conditionOf (rdField w) (h .v) (h .c) (h .s) (h .z)) ≡ true → rs′ ≡ rs → m′ ≡ m → r ≡ to h a 5 → Turned map rs m h w rs′ m′ r
+      → holds (conditionOf (rdField w) (h .v) (h .c) (sOf h) (zOf h)) ≡ true → rs′ ≡ rs → m′ ≡ m → r ≡ to h a 5 → Turned map rs m h w rs′ m′ r
   passed :
       {d add next : ℕ} → w / 2048 ≡ JUMP → (rdField w ≡ 13 → ⊥) → Target map rs m h w d add → next ≡ plus (h .pc) 4
-      → holds (conditionOf (rdField w) (h .v) (h .c) (h .s) (h .z)) ≡ false → rs′ ≡ rs → m′ ≡ m → r ≡ to h next 4 → Turned map rs m h w rs′ m′ r
+      → holds (conditionOf (rdField w) (h .v) (h .c) (sOf h) (zOf h)) ≡ false → rs′ ≡ rs → m′ ≡ m → r ≡ to h next 4 → Turned map rs m h w rs′ m′ r
   called :
       {d add a next sp : ℕ} → w / 2048 ≡ CALL → Target map rs m h w d add → d < 65536 → a ≡ plus d add → next ≡ plus (h .pc) 4
       → sp ≡ minus (getD rs 13 0) 2 → Wrote map m Word sp next m′ → rs′ ≡ set rs 13 sp → r ≡ to h a 6 → Turned map rs m h w rs′ m′ r

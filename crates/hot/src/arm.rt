@@ -22,8 +22,7 @@ impl Hot {
             pc,
             v: self.v,
             c: self.c,
-            s: self.s,
-            z: self.z,
+            result: self.result,
             cost,
         }
     }
@@ -35,11 +34,25 @@ impl Hot {
         self.to(self.pc, 0)
     }
 
+    // S, the sign of the result.
+    pub fn s(self) -> bool
+        ensures { λ r. ⌜ r ≡ def.sOf self ⌝ }
+    {
+        32768 <= self.result
+    }
+
+    // Z: the result is 0.
+    pub fn z(self) -> bool
+        ensures { λ r. ⌜ r ≡ def.zOf self ⌝ }
+    {
+        self.result == 0
+    }
+
     // A jump is taken.
     pub(crate) fn taken(self, n: u8) -> bool
-        ensures { λ r. ⌜ r ≡ takenOn n (self .v) (self .c) (self .s) (self .z) ⌝ }
+        ensures { λ r. ⌜ r ≡ takenOn n (self .v) (self .c) (def.sOf self) (def.zOf self) ⌝ }
     {
-        status::taken(n, self.v, self.c, self.s, self.z)
+        status::taken(n, self.v, self.c, self.s(), self.z())
     }
 
     // LD and ADD to SHRL with their operand.
@@ -114,8 +127,7 @@ fn flagged(r: Alu, pc: u16, cost: u32) -> Hot
         pc,
         v: r.v,
         c: r.c,
-        s: r.s,
-        z: r.z,
+        result: r.value,
         cost,
     }
 }

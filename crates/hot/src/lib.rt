@@ -2,12 +2,11 @@
 mod arm;
 mod turn;
 
-// PC and the arithmetic flags. `cost` is the states of the last instruction, 0 where it was not carried out.
+// PC and the arithmetic flags, S and Z being those of a result. `cost` is the states of the last instruction, 0 where it was not carried out.
 pub struct Hot {
     pub pc: u16,
     pub v: bool,
     pub c: bool,
-    pub s: bool,
-    pub z: bool,
+    pub result: u16,
     pub cost: u32,
 }

@@ -1,7 +1,7 @@
 -- An access. Document 01, "MMU" and "Faults in order": "Each access is tested for an odd word address (11, cause bit 1, in any mode), then no
 -- entry (10), then right (11, cause bit 0)."
 -- Assumes nothing.
-use mathlib.Core.Bool.{Bool, cond, false}
+use mathlib.Core.Bool.{Bool, cond}
 use mathlib.Core.List.{List}
 use Prim.Native.Nat.{ℕ, _%_}
 use lib.Dec.{eqb}
@@ -44,11 +44,7 @@ byTlb tlb right a = byLookup (lookupOf tlb (upper a)) tlb right a
 unfoldable pub alignedAccess : Bool → List ℕ → Right → ℕ → Accessed
 alignedAccess on tlb right a = cond on (byTlb tlb right a) (granted a tlb)
 
--- "an odd word address": a byte's address is never one
-abbrev pub misaligned : Width → ℕ → Bool
-misaligned Byte a = false
-misaligned Word a = eqb (a % 2) 1
-
--- an access to a byte or a word: "tested for an odd word address ... in any mode" first
+-- an access to a byte; to a word "tested for an odd word address ... in any mode" first
 unfoldable pub accessOf : Width → Bool → List ℕ → Right → ℕ → Accessed
-accessOf width on tlb right a = cond (misaligned width a) (failed fault.Odd tlb) (alignedAccess on tlb right a)
+accessOf Byte on tlb right a = alignedAccess on tlb right a
+accessOf Word on tlb right a = cond (eqb (a % 2) 1) (failed fault.Odd tlb) (alignedAccess on tlb right a)

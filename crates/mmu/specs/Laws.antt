@@ -11,8 +11,8 @@ use lib.ListN.{getD, length, set, length-set}
 use Rattle.word.specs.Cases.{either}
 use Rattle.word.specs.Word.{halves, lower, upper}
 use Rattle.word.specs.declared.Width.{Width}
-use Rattle.word.specs.declared.Width.the-variants.{Word}
-use Rattle.mmu.specs.Access.{accessOf, alignedAccess, byEntry, byLookup, byTlb, failed, granted, misaligned}
+use Rattle.word.specs.declared.Width.the-variants.{Byte, Word}
+use Rattle.mmu.specs.Access.{accessOf, alignedAccess, byEntry, byLookup, byTlb, failed, granted}
 use Rattle.mmu.specs.Entry.{frameIn, gives, marked}
 use Rattle.mmu.specs.Found.{Found, found}
 use Rattle.mmu.specs.Lookup.{hasPage, lookupOf}
@@ -56,8 +56,9 @@ aligned-cases false tlb right a = direct refl refl
 
 pub access-cases : (width : Width) (on : Bool) (tlb : List ℕ) (right : Right) (a : ℕ) → AccessCases on tlb right a (accessOf width on tlb right a)
 unfolding accessOf
-access-cases width on tlb right a =
-    either (AccessCases on tlb right a) (misaligned width a) (λ _. fails fault.Odd refl) (λ _. aligned-cases on tlb right a)
+access-cases Byte on tlb right a = aligned-cases on tlb right a
+access-cases Word on tlb right a =
+    either (AccessCases on tlb right a) (eqb (a % 2) 1) (λ _. fails fault.Odd refl) (λ _. aligned-cases on tlb right a)
 
 -- a word that is granted has an even address
 pub word-even : (on : Bool) (tlb : List ℕ) (right : Right) (a p : ℕ) → (accessOf Word on tlb right a) .access ≡ At p → a % 2 ≡ 0

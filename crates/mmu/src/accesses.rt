@@ -53,7 +53,7 @@ fn translate(tlb: [u32; 8], right: Right, a: u16) -> Accessed
     }
 }
 
-// An access whose address is none of an odd word.
+// An access to a byte, or to a word at an even address.
 fn aligned(on: bool, tlb: [u32; 8], right: Right, a: u16) -> Accessed
     ensures { λ r. ⌜ r ≡ def.alignedAccess on tlb right a ⌝ }
 {
@@ -63,22 +63,17 @@ fn aligned(on: bool, tlb: [u32; 8], right: Right, a: u16) -> Accessed
     granted(a, tlb)
 }
 
-// A word at an odd address.
-fn misaligned(width: Width, a: u16) -> bool
-    ensures { λ r. ⌜ r ≡ def.misaligned width a ⌝ }
-{
-    match width {
-        Width::Byte => false,
-        Width::Word => a % 2 == 1,
-    }
-}
-
 // An access. `on` says whether the MMU translates.
 pub fn try_access(width: Width, on: bool, tlb: [u32; 8], right: Right, a: u16) -> Accessed
     ensures { λ r. ⌜ r ≡ def.accessOf width on tlb right a ⌝ }
 {
-    if misaligned(width, a) {
-        return failed(Fault::Odd, tlb);
+    match width {
+        Width::Byte => aligned(on, tlb, right, a),
+        Width::Word => {
+            if a % 2 == 1 {
+                return failed(Fault::Odd, tlb);
+            }
+            aligned(on, tlb, right, a)
+        }
     }
-    aligned(on, tlb, right, a)
 }

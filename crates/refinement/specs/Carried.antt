@@ -16,7 +16,7 @@ use Rattle.word.specs.declared.Width.the-variants.{Word}
 use Rattle.word.specs.Word.{plus}
 use Rattle.source.specs.Fields.{RegRead, modeOf}
 use Rattle.source.specs.Sources.{Named, Valued, by-frame, by-index, by-register, by-register-byte, by-second, field, held, loaded, second}
-use Rattle.hot.specs.Tells.{Acts, Added, Tells, Turned}
+use Rattle.hot.specs.Tells.{Acts, Added, Tells, Turned, sOf, zOf}
 use Rattle.hot.specs.Tells.{called, compare, compute, divide, done, idled, jumped, load, none, one, operated, passed, popped, pushed, returned, shift, stop, stored}
 use Rattle.hot.specs.declared.Hot.{Hot}
 use Rattle.source.specs.declared.operand.Source.{Source}
@@ -27,6 +27,7 @@ use Rattle.refinement.specs.Operands.{Addressed, Second, Sourced, memory
 use Rattle.refinement.specs.Operations.{RxFine, rx-low, rx-unused}
 use Rattle.refinement.specs.Operations.{call-does, compare-does, divide-does, jump-does, load-does, next-does, no-does, pass-does, pop-does, push-does, ret-does, shift-does, store-does}
 use Rattle.refinement.specs.Opens.{opens-call, opens-jump, opens-store}
+use Rattle.refinement.specs.Results.{ByValue, difference-by-value, result-by-value}
 use Rattle.refinement.specs.Shorts.{frame-word, short-word}
 
 -- ---- operands
@@ -55,15 +56,15 @@ module _ (b : State) {map : List ℕ} (maps : MapOf b map) (rs m : List ℕ) (h 
   second-of r = record { at = r .at; grants = access-granted maps (r .placed); value = r .value }
 
   in-register : (a n : ℕ) → RegRead rs n a → a ≡ regOf st n
-  in-register a n r = r .value ∙ sym (reg-hot b rs (h .pc) (h .v) (h .c) (h .s) (h .z) n (r .low))
+  in-register a n r = r .value ∙ sym (reg-hot b rs (h .pc) (h .v) (h .c) (sOf h) (zOf h) n (r .low))
 
   addressed : {mode a next : ℕ} {width : Width} → Named rs map m (h .pc) w mode a next width → Addressed st m w mode a next width
   addressed {a} {next} (by-second n f) = operands.direct st m w a next (second-of f) n
   addressed {a} {next} (by-index {d} n f p) =
       operands.indexed st m w d (getD rs (rxField w) 0) a next (second-of f)
-      (sym (reg-hot b rs (h .pc) (h .v) (h .c) (h .s) (h .z) (rxField w) (p .low))) (p .value) n
+      (sym (reg-hot b rs (h .pc) (h .v) (h .c) (sOf h) (zOf h) (rxField w) (p .low))) (p .value) n
   addressed {a} {next} (by-frame n f) =
-      operands.framed st m w a next (rw (reg-hot b rs (h .pc) (h .v) (h .c) (h .s) (h .z) 12 (omega arith), ← frame-word (rxField w) (omega arith)) f) n
+      operands.framed st m w a next (rw (reg-hot b rs (h .pc) (h .v) (h .c) (sOf h) (zOf h) 12 (omega arith), ← frame-word (rxField w) (omega arith)) f) n
   addressed {a} {next} (by-register n p) = operands.indirect st m w a next (in-register a (w % 16) p) n
   addressed {a} {next} (by-register-byte n p) = operands.byte-indirect st m w a next (in-register a (w % 16) p) n
 
@@ -99,19 +100,27 @@ module _ (b : State) {map : List ℕ} (maps : MapOf b map) (rs m : List ℕ) (h 
   module _ (size : length rs ≡ 16) where
     acted :
         {x : Source} {rs′ : List ℕ} {r : Hot} → rdField w < 14 → Valued rs map m (h .pc) w (modeOf w) (x .value) (x .next) → Acts rs h w x rs′ r
-        → Does b rs h m w rs′ (r .pc) (r .v) (r .c) (r .s) (r .z) m (r .cost)
+        → Does b rs h m w rs′ (r .pc) (r .v) (r .c) (sOf r) (zOf r) m (r .cost)
     acted {x} low v (load e p q) =
         rw (p, q) (load-does b rs size h m w low (modeOf w) (omega arith) (valued-fine v) (x .value) (x .next) (sourced v) (omega arith))
     acted {x} low v (compare a e c p q) =
-        rw (p, q) (compare-does b rs size h m w low (modeOf w) (omega arith) (valued-fine v) (x .value) (x .next) (sourced v) (omega arith) a c)
+        let b′ : ByValue a = rw c (difference-by-value _ _) in
+        rw (p, q, ← b′ .s, ← b′ .z)
+        (compare-does b rs size h m w low (modeOf w) (omega arith) (valued-fine v) (x .value) (x .next) (sourced v) (omega arith) a c)
     acted {x} low v (compute a c n e t p q) =
-        rw (p, q) (next-does b rs size h m w low (modeOf w) (omega arith) (valued-fine v) (x .value) (x .next) (sourced v) a t n (omega arith) c)
+        let b′ : ByValue a = rw t (result-by-value _ _ _) in
+        rw (p, q, ← b′ .s, ← b′ .z)
+        (next-does b rs size h m w low (modeOf w) (omega arith) (valued-fine v) (x .value) (x .next) (sourced v) a t n (omega arith) c)
     acted {x} low v (divide a c n e z t p q) =
-        rw (p, q) (divide-does b rs size h m w low (modeOf w) (omega arith) (valued-fine v) (x .value) (x .next) (sourced v) a t n (omega arith) c z)
+        let b′ : ByValue a = rw t (result-by-value _ _ _) in
+        rw (p, q, ← b′ .s, ← b′ .z)
+        (divide-does b rs size h m w low (modeOf w) (omega arith) (valued-fine v) (x .value) (x .next) (sourced v) a t n (omega arith) c z)
     acted {x} low v (shift a c n e t p q) =
-        rw (p, q) (shift-does b rs size h m w low (modeOf w) (omega arith) (valued-fine v) (x .value) (x .next) (sourced v) a t n (omega arith) c)
+        let b′ : ByValue a = rw t (result-by-value _ _ _) in
+        rw (p, q, ← b′ .s, ← b′ .z)
+        (shift-does b rs size h m w low (modeOf w) (omega arith) (valued-fine v) (x .value) (x .next) (sourced v) a t n (omega arith) c)
 
-    turned : {rs′ m′ : List ℕ} {r : Hot} → Turned map rs m h w rs′ m′ r → Does b rs h m w rs′ (r .pc) (r .v) (r .c) (r .s) (r .z) m′ (r .cost)
+    turned : {rs′ m′ : List ℕ} {r : Hot} → Turned map rs m h w rs′ m′ r → Does b rs h m w rs′ (r .pc) (r .v) (r .c) (sOf r) (zOf r) m′ (r .cost)
     turned (jumped {d} {a} code n t l q c p y z) =
         rw (p, y, z)
         (jump-does b rs size h m w (omega arith) (added-fine (t .added)) (at-target (t .small) d _ (second-of (t .fetched)) refl (t .added) l a q)
@@ -140,6 +149,6 @@ module _ (b : State) {map : List ℕ} (maps : MapOf b map) (rs m : List ℕ) (h 
 
 pub carried :
     {map rs m : List ℕ} {h : Hot} {w : ℕ} {rs′ m′ : List ℕ} {r : Hot} → Tells map rs m h w rs′ m′ r → (r .cost ≡ 0 → ⊥) → (b : State) → MapOf b map
-    → Does b rs h m w rs′ (r .pc) (r .v) (r .c) (r .s) (r .z) m′ (r .cost)
+    → Does b rs h m w rs′ (r .pc) (r .v) (r .c) (sOf r) (zOf r) m′ (r .cost)
 carried (stop z p q) n b maps = absurd (n z)
 carried {rs} {m} {h} {w} (done l k size s t) n b maps = turned b maps rs m h w size t

@@ -4,5 +4,6 @@ pub mod Hot
 pub mod Opens
 pub mod Operands
 pub mod Operations
+pub mod Results
 pub mod Shorts
 pub mod Statement

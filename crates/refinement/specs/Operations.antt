@@ -53,6 +53,7 @@ use Rattle.refinement.specs.Hot.{reg-hot, sp-hot, sp-with-hot, with-hot}
 use Rattle.refinement.specs.Operands.{Addressed, Reached, Sourced}
 use Rattle.refinement.specs.Opens.{Opens, opens, opens-compute, opens-load}
 use Rattle.source.specs.Rows.{Computes, add, addCost, adds, and, cmp, div, loadCost, modulo, mul, or, shla, shll, shra, shrl, sub, xor}
+use Rattle.hot.specs.Tells.{sOf, zOf}
 use Rattle.hot.specs.declared.Hot.{Hot}
 
 -- the first word w leads with its operand to the instruction
@@ -120,7 +121,7 @@ module _ (b : State) (rs : List ℕ) (size : length rs ≡ 16) (h : Hot) (m : Li
   held = getD rs (rdField w) 0
 
   reg : (n : ℕ) → n < 14 → regOf st n ≡ getD rs n 0
-  reg n l = reg-hot b rs (h .pc) (h .v) (h .c) (h .s) (h .z) n l
+  reg n l = reg-hot b rs (h .pc) (h .v) (h .c) (sOf h) (zOf h) n l
 
   -- ---- with a source
 
@@ -145,11 +146,11 @@ module _ (b : State) (rs : List ℕ) (size : length rs ≡ 16) (h : Hot) (m : Li
         enters st m w o e (fields-register mode w low fine) (s .operand) next (s .reached)
         ∙ accessed st m _ next x store.Nothing (s .source _)
 
-    pub load-does : upper w ≡ LD * 8 + mode → Does b rs h m w (set rs rd x) next (h .v) (h .c) (h .s) (h .z) m (loadCost mode)
+    pub load-does : upper w ≡ LD * 8 + mode → Does b rs h m w (set rs rd x) next (h .v) (h .c) (sOf h) (zOf h) m (loadCost mode)
     unfolding endOf commit afterOperation bodyOf eventOf stored
     load-does e =
         rw (ends (opens-load mode below) e)
-        (ap (λ (q : State). did q m (loadCost mode)) (with-hot b rs next (h .v) (h .c) (h .s) (h .z) size rd x low))
+        (ap (λ (q : State). did q m (loadCost mode)) (with-hot b rs next (h .v) (h .c) (sOf h) (zOf h) size rd x low))
 
     pub compare-does :
         upper w ≡ CMP * 8 + mode → (r : Alu) → r ≡ subOf held x
@@ -194,32 +195,32 @@ module _ (b : State) (rs : List ℕ) (size : length rs ≡ 16) (h : Hot) (m : Li
 
   module _ {byte mode cost a next : ℕ} {width : Width} (e : upper w ≡ byte) (fine : RxFine mode w) (p : Addressed st m w mode a next width) where
     module _ (o : Opens byte JUMP mode condition data-access.None flow.Jump cost) (n : rd ≡ 13 → ⊥) where
-      pub jump-does : holds (conditionOf rd (h .v) (h .c) (h .s) (h .z)) ≡ true → Does b rs h m w rs a (h .v) (h .c) (h .s) (h .z) m (cost + 1)
+      pub jump-does : holds (conditionOf rd (h .v) (h .c) (sOf h) (zOf h)) ≡ true → Does b rs h m w rs a (h .v) (h .c) (sOf h) (zOf h) m (cost + 1)
       unfolding needOf transferOf endOf commit afterOperation bodyOf eventOf stored
       jump-does t = rw (finishes o e (fields-condition mode w n fine) (p .operand) next (p .reached) 0 store.Nothing refl, t, p .address)
 
-      pub pass-does : holds (conditionOf rd (h .v) (h .c) (h .s) (h .z)) ≡ false → Does b rs h m w rs next (h .v) (h .c) (h .s) (h .z) m cost
+      pub pass-does : holds (conditionOf rd (h .v) (h .c) (sOf h) (zOf h)) ≡ false → Does b rs h m w rs next (h .v) (h .c) (sOf h) (zOf h) m cost
       unfolding needOf transferOf endOf commit afterOperation bodyOf eventOf stored
       pass-does t = rw (finishes o e (fields-condition mode w n fine) (p .operand) next (p .reached) 0 store.Nothing refl, t)
 
     pub call-does :
         Opens byte CALL mode unused data-access.Push flow.Call cost → (sp at : ℕ) → sp ≡ minus (getD rs 13 0) 2 → Grants b Write sp at
-        → Does b rs h m w (set rs 13 sp) a (h .v) (h .c) (h .s) (h .z) (storeWord m at next) cost
+        → Does b rs h m w (set rs 13 sp) a (h .v) (h .c) (sOf h) (zOf h) (storeWord m at next) cost
     unfolding needOf valueStored transferOf endOf commit afterOperation bodyOf eventOf stored
     call-does o sp at q g =
         rw (
           finishes o e (fields-unused mode w fine) (p .operand) next (p .reached) 0 (store.At Word at next)
-              (rw (sp-hot b rs (h .pc) (h .v) (h .c) (h .s) (h .z), ← q, g)),
+              (rw (sp-hot b rs (h .pc) (h .v) (h .c) (sOf h) (zOf h), ← q, g)),
           p .address,
-          sp-hot b rs a (h .v) (h .c) (h .s) (h .z),
+          sp-hot b rs a (h .v) (h .c) (sOf h) (zOf h),
           ← q,
         )
-        (ap (λ (y : State). did y (storeWord m at next) cost) (sp-with-hot b rs a (h .v) (h .c) (h .s) (h .z) size sp))
+        (ap (λ (y : State). did y (storeWord m at next) cost) (sp-with-hot b rs a (h .v) (h .c) (sOf h) (zOf h) size sp))
 
   module _ {byte mode cost a next : ℕ} (low : rd < 14) (e : upper w ≡ byte) (fine : RxFine mode w) (o : Opens byte ST mode register data-access.Destination flow.Next cost) where
     pub store-does :
         (width : Width) → Addressed st m w mode a next width → (at : ℕ) → accessOf width (translates b) (b .tlb) Write a ≡ granted at (b .tlb)
-        → Does b rs h m w rs next (h .v) (h .c) (h .s) (h .z) (writeAt width m at held) cost
+        → Does b rs h m w rs next (h .v) (h .c) (sOf h) (zOf h) (writeAt width m at held) cost
     unfolding needOf valueStored transferOf endOf commit afterOperation bodyOf eventOf stored
     store-does width p at g =
         rw (finishes o e (fields-register mode w low fine) (p .operand) next (p .reached) 0 (store.At width at held) (rw (p .wide, p .address, g, reg rd low)))
@@ -235,7 +236,7 @@ module _ (b : State) (rs : List ℕ) (size : length rs ≡ 16) (h : Hot) (m : Li
     unfolding hasSecond operandOf
     alone r = one-word st m r 8 w refl ∙ rw n
 
-    pub no-does : upper w ≡ NO * 8 → Does b rs h m w rs next (h .v) (h .c) (h .s) (h .z) m 3
+    pub no-does : upper w ≡ NO * 8 → Does b rs h m w rs next (h .v) (h .c) (sOf h) (zOf h) m 3
     unfolding opcodeOf inRows inModes modeBits rows row eight single addStates divStates shiftStates costOf statesAt needOf transferOf endOf commit afterOperation bodyOf eventOf stored
     no-does e =
         rw (finishes {code = NO} {cost = 3} {access = data-access.None} {f = flow.Next} (opens _ refl refl) e (fields-unused 8 w single-fine)
@@ -243,44 +244,44 @@ module _ (b : State) (rs : List ℕ) (size : length rs ≡ 16) (h : Hot) (m : Li
 
     pub push-does :
         upper w ≡ PUSH * 8 → rd < 14 → (sp at : ℕ) → sp ≡ minus (getD rs 13 0) 2 → Grants b Write sp at
-        → Does b rs h m w (set rs 13 sp) next (h .v) (h .c) (h .s) (h .z) (storeWord m at held) 5
+        → Does b rs h m w (set rs 13 sp) next (h .v) (h .c) (sOf h) (zOf h) (storeWord m at held) 5
     unfolding opcodeOf inRows inModes modeBits rows row eight single addStates divStates shiftStates costOf statesAt needOf valueStored transferOf endOf commit afterOperation bodyOf eventOf stored
     push-does e low sp at q g =
         rw (
           finishes {code = PUSH} {cost = 5} {access = data-access.Push} {f = flow.Next} (opens _ refl refl) e (fields-register 8 w low single-fine)
-              operand.Nothing next alone 0 (store.At Word at held) (rw (sp-hot b rs (h .pc) (h .v) (h .c) (h .s) (h .z), ← q, g, reg rd low)),
+              operand.Nothing next alone 0 (store.At Word at held) (rw (sp-hot b rs (h .pc) (h .v) (h .c) (sOf h) (zOf h), ← q, g, reg rd low)),
           sp-hot b rs next (h .v)
-              (h .c) (h .s) (h .z),
+              (h .c) (sOf h) (zOf h),
           ← q,
         )
-        (ap (λ (y : State). did y (storeWord m at held) 5) (sp-with-hot b rs next (h .v) (h .c) (h .s) (h .z) size sp))
+        (ap (λ (y : State). did y (storeWord m at held) 5) (sp-with-hot b rs next (h .v) (h .c) (sOf h) (zOf h) size sp))
 
     pub pop-does :
         upper w ≡ PUSH * 8 + 4 → rd < 14 → (at sp x : ℕ) → Grants b Read (getD rs 13 0) at → x ≡ wordAt m at → sp ≡ plus (getD rs 13 0) 2
-        → Does b rs h m w (set (set rs 13 sp) rd x) next (h .v) (h .c) (h .s) (h .z) m 6
+        → Does b rs h m w (set (set rs 13 sp) rd x) next (h .v) (h .c) (sOf h) (zOf h) m 6
     unfolding opcodeOf inRows inModes modeBits rows row eight single addStates divStates shiftStates costOf statesAt needOf valueStored transferOf endOf commit afterOperation bodyOf eventOf stored
     pop-does e low at sp x g q k =
         rw (
           finishes {code = POP} {cost = 6} {access = data-access.Pop} {f = flow.Next} (opens _ refl refl) e (fields-register 8 w low single-fine)
-              operand.Nothing next alone x store.Nothing (rw (sp-hot b rs (h .pc) (h .v) (h .c) (h .s) (h .z), g, q)),
-          sp-hot b rs next (h .v) (h .c) (h .s) (h .z),
+              operand.Nothing next alone x store.Nothing (rw (sp-hot b rs (h .pc) (h .v) (h .c) (sOf h) (zOf h), g, q)),
+          sp-hot b rs next (h .v) (h .c) (sOf h) (zOf h),
           ← k,
         )
-        (ap (λ (y : State). did y m 6) (ap (λ (y : State). withReg y rd x) (sp-with-hot b rs next (h .v) (h .c) (h .s) (h .z) size sp) ∙ with-hot b
-        (set rs 13 sp) next (h .v) (h .c) (h .s) (h .z) (length-set rs 13 sp ∙ size) rd x low))
+        (ap (λ (y : State). did y m 6) (ap (λ (y : State). withReg y rd x) (sp-with-hot b rs next (h .v) (h .c) (sOf h) (zOf h) size sp) ∙ with-hot b
+        (set rs 13 sp) next (h .v) (h .c) (sOf h) (zOf h) (length-set rs 13 sp ∙ size) rd x low))
 
     pub ret-does :
         upper w ≡ RET * 8 → (at sp x : ℕ) → Grants b Read (getD rs 13 0) at → x ≡ wordAt m at → sp ≡ plus (getD rs 13 0) 2
-        → Does b rs h m w (set rs 13 sp) x (h .v) (h .c) (h .s) (h .z) m 6
+        → Does b rs h m w (set rs 13 sp) x (h .v) (h .c) (sOf h) (zOf h) m 6
     unfolding opcodeOf inRows inModes modeBits rows row eight single addStates divStates shiftStates costOf statesAt needOf valueStored transferOf endOf commit afterOperation bodyOf eventOf stored
     ret-does e at sp x g q k =
         rw (
           finishes {code = RET} {cost = 6} {access = data-access.Pop} {f = flow.Return} (opens _ refl refl) e (fields-unused 8 w single-fine) operand.Nothing
-              next alone x store.Nothing (rw (sp-hot b rs (h .pc) (h .v) (h .c) (h .s) (h .z), g, q)),
-          sp-hot b rs x (h .v) (h .c) (h .s) (h .z),
+              next alone x store.Nothing (rw (sp-hot b rs (h .pc) (h .v) (h .c) (sOf h) (zOf h), g, q)),
+          sp-hot b rs x (h .v) (h .c) (sOf h) (zOf h),
           ← k,
         )
-        (ap (λ (y : State). did y m 6) (sp-with-hot b rs x (h .v) (h .c) (h .s) (h .z) size sp))
+        (ap (λ (y : State). did y m 6) (sp-with-hot b rs x (h .v) (h .c) (sOf h) (zOf h) size sp))
 
 pub rx-unused : (mode w : ℕ) → usesRx mode ≡ false → RxFine mode w
 rx-unused mode w e = rw e (and-false (eqb (rxField w) 15))

@@ -15,6 +15,7 @@ use Rattle.machine.specs.declared.Event.the-variants.{Executed}
 use Rattle.machine.specs.declared.Planned.{Planned}
 use Rattle.machine.specs.declared.State.{State}
 use Rattle.pages.specs.Maps.{Mapped}
+use Rattle.hot.specs.Tells.{sOf, zOf}
 use Rattle.hot.specs.declared.Hot.{Hot}
 
 -- the state: register n below 14 is the n-th of a list of 16, SP the 13th
@@ -35,7 +36,7 @@ hot b rs pc v c s z =
     }
 
 abbrev pub hotState : State → List ℕ → Hot → State
-hotState b rs h = hot b rs (h .pc) (h .v) (h .c) (h .s) (h .z)
+hotState b rs h = hot b rs (h .pc) (h .v) (h .c) (sOf h) (zOf h)
 
 -- a map of the pages
 abbrev pub MapOf : State → List ℕ → Type 0

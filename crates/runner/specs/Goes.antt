@@ -1,6 +1,6 @@
 -- Instructions one after the other, none of which enters the kernel or stops the machine; and runs by such parts.
 -- Assumes nothing.
-use mathlib.Core.Bool.{false}
+use mathlib.Core.Bool.{false, _&&_}
 use mathlib.Core.List.{List}
 use mathlib.Core.Path.{ap, _∙_, _≡_}
 use Prim.Native.Nat.{suc, ℕ, _+_}
@@ -45,10 +45,11 @@ goes-run {st} {m} (more {steps} {states} {n} {st′} {st″} {m′} {m″} g c e
 
 -- ---- the loop
 
--- a machine that runs, with no interrupt due
+-- a machine that runs, with no interrupt due, and not both S and Z
 pub record Ready (b : State) : Type 0 where
   pub running : b .condition ≡ Running
   pub calm : interrupted b ≡ false
+  pub apart : (b .flags .s && b .flags .z) ≡ false
 
 -- `steps` instructions on every such machine whose pages the map gives
 pub record Leads (map rs m : List ℕ) (h : Hot) (steps states : ℕ) (rs′ m′ : List ℕ) (h′ : Hot) : Type 0 where

@@ -1,7 +1,9 @@
 // Plain instructions from a state of the machine.
+ghost use mathlib.Core.Bool.{_&&_, false, true};
 ghost use mathlib.Core.Path.{_≡_};
 ghost use Prim.Native.Nat.{_*_, _≤_};
 ghost use lib.ListN.{length};
+ghost use Rattle.alu.specs.Alu.{signOf, zeroOf};
 ghost use Rattle.runner.specs.Goes.{Goes, Ready};
 ghost use Rattle.refinement.specs.Statement.{hot, hotState};
 use crate::Part;
@@ -49,8 +51,8 @@ fn gather(mut base: State, rs: [u16; 16], h: Hot) -> State
         i: f.i,
         v: h.v,
         c: h.c,
-        s: h.s,
-        z: h.z,
+        s: h.s(),
+        z: h.z(),
     };
     let regs = [
         rs[0],
@@ -73,7 +75,17 @@ fn gather(mut base: State, rs: [u16; 16], h: Hot) -> State
     base.set_sp(rs[13])
 }
 
-// Plain instructions of a running machine with no interrupt due.
+// A result with these S and Z. No result has both.
+fn result_of(s: bool, z: bool) -> u16
+    ensures { λ r. ⌜ ((s && z) ≡ false → (signOf r ≡ s) × (zeroOf r ≡ z)) ⌝ }
+{
+    if s {
+        return 32768;
+    }
+    if z { 0 } else { 1 }
+}
+
+// Plain instructions of a machine that is ready for them.
 fn stretch(state: State, mem: &mut [u8], allowance: u16) -> Part
     requires { ⌜ (length (now mem) ≡ 65536) × Ready state ⌝ }
     ensures goes { λ r. ⌜ Goes state (now (mem .entry)) (r .steps) (r .states) (r .state) (now (mem .exit)) ⌝ }
@@ -85,8 +97,7 @@ fn stretch(state: State, mem: &mut [u8], allowance: u16) -> Part
         pc: state.pc,
         v: f.v,
         c: f.c,
-        s: f.s,
-        z: f.z,
+        result: result_of(f.s, f.z),
         cost: 0,
     };
     let tlb = state.tlb;
@@ -106,39 +117,34 @@ fn stretch(state: State, mem: &mut [u8], allowance: u16) -> Part
     }
 }
 
+// Whether plain instructions may be carried out: the machine runs, no interrupt is due, and its S and Z are those of a result.
+fn ready(state: State) -> bool
+    ensures { λ r. ⌜ (r ≡ true → Ready state) ⌝ }
+{
+    let f = state.flags;
+    let calm = !state.interrupted() & !(f.s & f.z);
+    let condition = state.condition;
+    match condition {
+        Condition::Running => calm,
+        Condition::Halted => false,
+        Condition::Lost => false,
+    }
+}
+
 // Plain instructions, where there may be any.
 pub fn ahead(state: State, mem: &mut [u8], allowance: u16) -> Part
     requires { ⌜ length (now mem) ≡ 65536 ⌝ }
     ensures goes { λ r. ⌜ Goes state (now (mem .entry)) (r .steps) (r .states) (r .state) (now (mem .exit)) ⌝ }
     ensures bounds { λ r. ⌜ (r .steps ≤ allowance) × (r .states ≤ 65535 * r .steps) ⌝ }
 {
-    if allowance == 0 {
-        return Part {
-            state,
-            steps: 0,
-            states: 0,
-        };
+    if allowance != 0 {
+        if ready(state) {
+            return stretch(state, mem, allowance);
+        }
     }
-    let condition = state.condition;
-    match condition {
-        Condition::Halted => return Part {
-            state,
-            steps: 0,
-            states: 0,
-        },
-        Condition::Lost => return Part {
-            state,
-            steps: 0,
-            states: 0,
-        },
-        Condition::Running => {}
+    Part {
+        state,
+        steps: 0,
+        states: 0,
     }
-    if state.interrupted() {
-        return Part {
-            state,
-            steps: 0,
-            states: 0,
-        };
-    }
-    stretch(state, mem, allowance)
 }

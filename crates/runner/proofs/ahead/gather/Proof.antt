@@ -5,44 +5,50 @@ use Rattle.refinement.specs.Hot.{first-thirteen}
 use Rattle.runner.proofs.ahead.gather.Statement.{statement}
 use Rattle.runner.proofs.ahead.gather.Tie as tie
 
+s-requires : tie.Need-s-requires
+s-requires c κs = search needs
+
+z-requires : tie.Need-z-requires
+z-requires c κs = search needs
+
 array-read-set-sp : tie.Need-array-read-set-sp
 array-read-set-sp c = search needs
 
-array-read-t13 : tie.Need-array-read-t13
-array-read-t13 c = search needs
+array-read-t15 : tie.Need-array-read-t15
+array-read-t15 c = search needs
 
-array-read-t16 : tie.Need-array-read-t16
-array-read-t16 c = search needs
+array-read-t18 : tie.Need-array-read-t18
+array-read-t18 c = search needs
 
-array-read-t19 : tie.Need-array-read-t19
-array-read-t19 c = search needs
+array-read-t21 : tie.Need-array-read-t21
+array-read-t21 c = search needs
 
-array-read-t22 : tie.Need-array-read-t22
-array-read-t22 c = search needs
+array-read-t24 : tie.Need-array-read-t24
+array-read-t24 c = search needs
 
-array-read-t25 : tie.Need-array-read-t25
-array-read-t25 c = search needs
+array-read-t27 : tie.Need-array-read-t27
+array-read-t27 c = search needs
 
-array-read-t28 : tie.Need-array-read-t28
-array-read-t28 c = search needs
+array-read-t30 : tie.Need-array-read-t30
+array-read-t30 c = search needs
 
-array-read-t31 : tie.Need-array-read-t31
-array-read-t31 c = search needs
+array-read-t33 : tie.Need-array-read-t33
+array-read-t33 c = search needs
 
-array-read-t34 : tie.Need-array-read-t34
-array-read-t34 c = search needs
+array-read-t36 : tie.Need-array-read-t36
+array-read-t36 c = search needs
 
-array-read-t37 : tie.Need-array-read-t37
-array-read-t37 c = search needs
+array-read-t39 : tie.Need-array-read-t39
+array-read-t39 c = search needs
 
-array-read-t40 : tie.Need-array-read-t40
-array-read-t40 c = search needs
+array-read-t42 : tie.Need-array-read-t42
+array-read-t42 c = search needs
 
-array-read-t43 : tie.Need-array-read-t43
-array-read-t43 c = search needs
+array-read-t45 : tie.Need-array-read-t45
+array-read-t45 c = search needs
 
-array-read-t46 : tie.Need-array-read-t46
-array-read-t46 c = search needs
+array-read-t48 : tie.Need-array-read-t48
+array-read-t48 c = search needs
 
 array-read-set-sp-2 : tie.Need-array-read-set-sp-2
 array-read-set-sp-2 c = search needs
@@ -51,25 +57,29 @@ set-sp-requires : tie.Need-set-sp-requires
 set-sp-requires c κs = search needs
 
 returns : tie.Need-returns
-returns c = rw (c .set-sp .ensures, first-thirteen (c .before .before .args .t2) (search (needs, c .before .before .good)))
+returns c =
+    let start = c .before .before .before .before in
+    rw (c .set-sp .ensures, c .before .z .ensures, c .before .before .s .ensures, first-thirteen (start .args .t2) (search (needs, start .good)))
 
 pub gather-spec : {M : Type 1} → statement M
 gather-spec =
     tie.close
     (tie.spec
+    s-requires
+    z-requires
     array-read-set-sp
-    array-read-t13
-    array-read-t16
-    array-read-t19
-    array-read-t22
-    array-read-t25
-    array-read-t28
-    array-read-t31
-    array-read-t34
-    array-read-t37
-    array-read-t40
-    array-read-t43
-    array-read-t46
+    array-read-t15
+    array-read-t18
+    array-read-t21
+    array-read-t24
+    array-read-t27
+    array-read-t30
+    array-read-t33
+    array-read-t36
+    array-read-t39
+    array-read-t42
+    array-read-t45
+    array-read-t48
     array-read-set-sp-2
     set-sp-requires
     returns)
