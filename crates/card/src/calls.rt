@@ -11,7 +11,7 @@ ghost use Rattle.image.specs.Image.{imageOf};
 ghost use Rattle.layout.specs.Layout.{imageSize};
 ghost use Rattle.refusal.specs.Call.{called};
 use crate::effects::execute;
-use crate::validity::validate;
+use crate::validity::validate_card;
 use refusal::Validity;
 
 // A card on buffers that are valid.
@@ -30,7 +30,7 @@ fn execute_valid(memory: &mut [u8], image: &mut [u8], card: &[u8], report: &mut 
 pub fn perform(memory: &mut [u8], image: &mut [u8], card: &[u8], report: &mut [u8]) -> u64
     ensures { λ r. ⌜ called r (now (memory .exit)) (now (image .exit)) (now (report .exit)) ≡ def.cardCall (now (memory .entry)) (now (image .entry)) (now (card .entry)) (now (report .entry)) ⌝ }
 {
-    let checked = validate(memory.len(), image, card, report.len());
+    let checked = validate_card(memory.len(), image, card, report.len());
     let validity = checked.validity;
     match validity {
         Validity::Refused(refusal) => refusal::answer_of(refusal),

@@ -75,7 +75,7 @@ fn execute_command(
             Progress { state, filled }
         }
         Command::Register(number, value) => Progress {
-            state: settings::set_register(state, number, value),
+            state: settings::assign_register(state, number, value),
             filled,
         },
         Command::Lines(lines, byte) => Progress {

@@ -8,13 +8,13 @@ use crate::CallValidity;
 use report::REPORT;
 
 // The tests of a card's call, and the report bytes that its runs need.
-pub fn validate(memory: usize, image: &[u8], card: &[u8], report: usize) -> CallValidity
+pub fn validate_card(memory: usize, image: &[u8], card: &[u8], report: usize) -> CallValidity
     ensures { λ r. ⌜ r ≡ record { validity = cardValid memory (now (image .entry)) (now (card .entry)) report; needed = reportSize * runsIn ((readingOf (now (card .entry))) .commands) } ⌝ }
 {
     let counted = tally::count(card);
     let alone = counted.validity;
     let needed = REPORT * counted.runs;
-    let machine = layout::validate(memory, image);
+    let machine = layout::validate_machine(memory, image);
     let fits = refusal::report_fits(report, needed);
     CallValidity {
         validity: refusal::and_then(refusal::and_then(machine, alone), fits),

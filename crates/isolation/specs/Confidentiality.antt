@@ -23,7 +23,7 @@ use Rattle.machine.specs.Plan.{after, fetched, interrupted, permitted, planFetc
 use Rattle.machine.specs.Register.{regOf, spOf}
 use Rattle.machine.specs.State.{withPending, withTlb}
 use Rattle.machine.specs.Step.{commit, stepOf}
-use Rattle.status.specs.Lines.{without}
+use Rattle.status.specs.Pending.{without}
 use Rattle.transfer.specs.Transfer.{byAccess, loaded, readSecond, transferAt, transferOf}
 use Rattle.transfer.specs.declared.Need.{Need}
 use Rattle.transfer.specs.declared.Need.the-variants as need

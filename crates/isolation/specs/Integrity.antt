@@ -29,7 +29,7 @@ use Rattle.status.specs.Flag.{permittedIn}
 use Rattle.machine.specs.Register.{regOf, spOf, sspAfter, sspWith, withReg, withSp}
 use Rattle.machine.specs.State.{withPc, withTlb}
 use Rattle.machine.specs.Step.{commit, stepOf}
-use Rattle.status.specs.Lines.{without}
+use Rattle.status.specs.Pending.{without}
 use Rattle.machine.specs.StepLaws.{body-by, enter-by}
 use Rattle.transfer.specs.Transfer.{readSecond, transferAt, transferOf}
 use Rattle.machine.specs.declared.Condition.{Condition}

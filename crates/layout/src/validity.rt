@@ -71,7 +71,7 @@ fn refused(cause: Cause) -> Validity
 }
 
 // Refusals 1 to 3.
-pub fn validate(memory: usize, image: &[u8]) -> Validity
+pub fn validate_machine(memory: usize, image: &[u8]) -> Validity
     ensures { λ r. ⌜ r ≡ def.machineValid memory (now (image .entry)) ⌝ }
 {
     if memory != MEMORY {

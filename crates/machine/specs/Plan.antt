@@ -19,7 +19,7 @@ use Rattle.plan.specs.End.{endOf, notPermitted, undefinedWord}
 use Rattle.transfer.specs.Need.{addressOf, needOf, valueStored}
 use Rattle.transfer.specs.Transfer.{fetchOf, transferOf}
 use Rattle.status.specs.Flag.{permittedIn, takenOn}
-use Rattle.status.specs.Lines.{interruptIn, lowestLine}
+use Rattle.status.specs.Pending.{interruptIn, lowestLine}
 use Rattle.word.specs.Word.{plus}
 use Rattle.machine.specs.Flag.{flagOf}
 use Rattle.machine.specs.Register.{regOf, spOf}

@@ -14,7 +14,7 @@ use Rattle.decode.specs.declared.Flow.the-variants as flow
 use Rattle.decode.specs.declared.Shape.{Shape}
 use Rattle.plan.specs.End.{endOf, notPermitted, performs, undefinedWord}
 use Rattle.machine.specs.Plan.{after, fetched, interrupted, permitted, planFetch, planFirst, planOf, planOperand, planSecond, planned, throughAccess}
-use Rattle.status.specs.Lines.{lowestLine}
+use Rattle.status.specs.Pending.{lowestLine}
 use Rattle.plan.specs.declared.Plan.{Plan}
 use Rattle.plan.specs.declared.Plan.the-variants.{Interrupt, Trap, Violation}
 use Rattle.machine.specs.declared.Planned.{Planned}

@@ -4,7 +4,7 @@ use mathlib.Core.List.{List}
 use Prim.Native.Nat.{ℕ}
 use Rattle.mmu.specs.Answers.{faultNumber}
 use Rattle.memory.specs.Memory.{stored}
-use Rattle.status.specs.Lines.{without}
+use Rattle.status.specs.Pending.{without}
 use Rattle.machine.specs.Enter.{Outcome, enterOf}
 use Rattle.machine.specs.Execute.{afterOperation, eventOf}
 use Rattle.machine.specs.Fault.{noted}

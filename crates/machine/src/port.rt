@@ -39,7 +39,7 @@ fn entry_written(port: u16, entry: u32, v: u16) -> u32
 }
 
 fn read_entry(tlb: [u32; 8], port: u16) -> u16
-    requires { ⌜ (128 ≤ port) × (port ≤ 158) ⌝ }
+    requires { ⌜ (def.firstTlbPort ≤ port) × (port ≤ def.lastTlbPort) ⌝ }
     ensures { λ r. ⌜ r ≡ def.tlbPort tlb port ⌝ }
 {
     if port % 2 == 0 {
@@ -50,7 +50,7 @@ fn read_entry(tlb: [u32; 8], port: u16) -> u16
 }
 
 fn write_entry(mut tlb: [u32; 8], port: u16, v: u16) -> [u32; 8]
-    requires { ⌜ (128 ≤ port) × (port ≤ 158) ⌝ }
+    requires { ⌜ (def.firstTlbPort ≤ port) × (port ≤ def.lastTlbPort) ⌝ }
     ensures { λ r. ⌜ r ≡ def.tlbAfter tlb port v ⌝ }
 {
     if port % 2 == 0 {

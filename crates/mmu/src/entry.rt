@@ -2,17 +2,7 @@
 ghost use mathlib.Core.Path.{_≡_};
 ghost use Rattle.mmu.specs.Entry as def;
 use crate::Right;
-
-// The bits of an entry.
-const REFERENCED: u32 = 0x1000;
-
-const DIRTY: u32 = 0x800;
-
-const READ: u32 = 0x400;
-
-const WRITE: u32 = 0x200;
-
-const EXECUTE: u32 = 0x100;
+use crate::bits::*;
 
 pub fn gives(right: Right, entry: u32) -> bool
     ensures { λ r. ⌜ r ≡ def.gives right entry ⌝ }

@@ -1,5 +1,6 @@
 // The MMU: TLB entries, the lookup of a page, an access.
 mod accesses;
+pub mod bits;
 mod entry;
 mod lookups;
 

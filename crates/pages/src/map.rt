@@ -9,16 +9,17 @@ ghost use Rattle.word.specs.declared.Width.the-variants as width;
 ghost use Rattle.pages.specs.Maps.{Mapped, Placed, SelfTo, ShowsFrom, mapBit, shownOf};
 use crate::NOWHERE;
 use mmu::Right;
+use mmu::bits::*;
 
 // The entry gives the right, and has its marks.
 fn usable(right: Right, entry: u32) -> bool
     ensures { λ r. ⌜ r ≡ usableIn right entry ⌝ }
 {
     match right {
-        Right::Read => (entry / 1024 % 2 == 1) & (entry / 4096 % 2 == 1),
-        Right::Write => (entry / 512 % 2 == 1)
-            & ((entry / 4096 % 2 == 1) & (entry / 2048 % 2 == 1)),
-        Right::Execute => (entry / 256 % 2 == 1) & (entry / 4096 % 2 == 1),
+        Right::Read => (entry / READ % 2 == 1) & (entry / REFERENCED % 2 == 1),
+        Right::Write => (entry / WRITE % 2 == 1)
+            & ((entry / REFERENCED % 2 == 1) & (entry / DIRTY % 2 == 1)),
+        Right::Execute => (entry / EXECUTE % 2 == 1) & (entry / REFERENCED % 2 == 1),
     }
 }
 
@@ -49,7 +50,7 @@ fn by_tlb(tlb: [u32; 8]) -> [u16; 256]
         k -= 1;
         let entry = tlb[k];
         let page = page_of(entry);
-        if entry / 32768 % 2 == 1 {
+        if entry / VALID % 2 == 1 {
             if page < 256 {
                 map[page] = shown(entry);
             }

@@ -7,7 +7,7 @@ use machine::Ports;
 use machine::State;
 
 // 02: register 13 is SSP whatever P is.
-pub fn set_register(mut state: State, number: u8, value: u16) -> State
+pub fn assign_register(mut state: State, number: u8, value: u16) -> State
     ensures { λ r. ⌜ r ≡ def.withRegister state number value ⌝ }
 {
     match number {

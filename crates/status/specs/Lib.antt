@@ -1,3 +1,3 @@
 pub mod Flag
-pub mod Lines
+pub mod Pending
 pub mod Saved

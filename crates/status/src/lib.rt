@@ -1,10 +1,10 @@
 // FLAG, the pending lines, and what a kernel entry saves.
 mod flag;
-mod lines;
+mod pending;
 mod saved;
 
 pub use flag::taken;
-pub use lines::without;
+pub use pending::without;
 
 // FLAG: E interrupts on, P privileged, I I/O privilege, V overflow, C carry, S sign, Z zero.
 pub struct Flags {

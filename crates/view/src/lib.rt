@@ -16,11 +16,11 @@ use refusal::Validity;
 use report::REPORT;
 
 // The tests of a run and of a view.
-pub fn validate(memory: usize, image: &[u8], report: usize) -> Validity
+pub fn validate_run(memory: usize, image: &[u8], report: usize) -> Validity
     ensures { λ r. ⌜ r ≡ def.runValid memory (now (image .entry)) report ⌝ }
 {
     refusal::and_then(
-        layout::validate(memory, image),
+        layout::validate_machine(memory, image),
         refusal::report_fits(report, REPORT),
     )
 }
@@ -58,7 +58,7 @@ fn view_valid(image: &[u8], report: &mut [u8])
 pub fn view(memory: &[u8], image: &[u8], report: &mut [u8]) -> u64
     ensures { λ r. ⌜ called r (now (memory .exit)) (now (image .exit)) (now (report .exit)) ≡ def.viewCall (now (memory .entry)) (now (image .entry)) (now (report .entry)) ⌝ }
 {
-    match validate(memory.len(), image, report.len()) {
+    match validate_run(memory.len(), image, report.len()) {
         Validity::Refused(refusal) => refusal::answer_of(refusal),
         Validity::Good => {
             view_valid(image, report);

@@ -16,7 +16,7 @@ use Rattle.plan.specs.Result.{aluOf}
 use Rattle.status.specs.Flag.{flagWord}
 use Rattle.transfer.specs.Need.{addressOf, loadNeed, needOf, valueStored}
 use Rattle.machine.specs.Plan.{planFetch, planFirst, planOf, planOperand, planSecond}
-use Rattle.status.specs.Lines.{interruptIn}
+use Rattle.status.specs.Pending.{interruptIn}
 use Rattle.plan.specs.End.{endOf}
 use Rattle.machine.specs.Ports.{causeAfter, mmuAfter, outputAfter, portIn, tlbAfter, tlbPort}
 use Rattle.machine.specs.Register.{regIn, regsAfter, spIn, sspAfter, sspWith, uspAfter, uspWith}

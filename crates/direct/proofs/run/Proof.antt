@@ -8,8 +8,8 @@ use borrow.Author.Needs.{needs}
 use Rattle.direct.proofs.run.Statement.{statement}
 use Rattle.direct.proofs.run.Tie as tie
 
-validate-requires : tie.Need-validate-requires
-validate-requires c κs = search needs
+validate-run-requires : tie.Need-validate-run-requires
+validate-run-requires c κs = search needs
 
 enum-known-refusal : tie.Need-enum-known-refusal
 enum-known-refusal c = search needs
@@ -22,7 +22,7 @@ enum-told c = search needs
 
 run-valid-requires : tie.Need-run-valid-requires
 run-valid-requires c κs =
-    let p = passed _ _ _ (sym (c .before .before .before .before .before .validate .ensures) ∙ c .before .before .before .enum-told .given .1) in
+    let p = passed _ _ _ (sym (c .before .before .before .before .before .validate-run .ensures) ∙ c .before .before .before .enum-told .given .1) in
     (p .memory, p .size, p .room)
 
 same-length : tie.Need-same-length
@@ -31,7 +31,7 @@ same-length c = search needs
 returns : tie.Need-returns
 unfolding runCall
 returns c =
-    rw (← c .before .before .before .before .validate .ensures, c .before .before .refusal .given .1) (called-is _ (c .answer-of .ensures) refl refl refl)
+    rw (← c .before .before .before .before .validate-run .ensures, c .before .before .refusal .given .1) (called-is _ (c .answer-of .ensures) refl refl refl)
 
 same-length-2 : tie.Need-same-length-2
 same-length-2 c = search needs
@@ -49,13 +49,13 @@ returns-2 c =
     let told = ran .before .before .before .before in
     let checked = told .before .before in
     let did = ran .run-valid .ensures in
-    rw (← checked .validate .ensures, told .enum-told .given .1) (called-is _ refl (did .0) (did .1 .0) (did .1 .1))
+    rw (← checked .validate-run .ensures, told .enum-told .given .1) (called-is _ refl (did .0) (did .1 .0) (did .1 .1))
 
 pub run-spec : {M : Type 1} → statement M
 run-spec =
     tie.close
     (tie.spec
-    validate-requires
+    validate-run-requires
     enum-known-refusal
     answer-of-requires
     enum-told

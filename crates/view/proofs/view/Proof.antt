@@ -8,8 +8,8 @@ use borrow.Author.Needs.{needs}
 use Rattle.view.proofs.view.Statement.{statement}
 use Rattle.view.proofs.view.Tie as tie
 
-validate-requires : tie.Need-validate-requires
-validate-requires c κs = search needs
+validate-run-requires : tie.Need-validate-run-requires
+validate-run-requires c κs = search needs
 
 enum-known-refusal : tie.Need-enum-known-refusal
 enum-known-refusal c = search needs
@@ -22,13 +22,13 @@ enum-told c = search needs
 
 view-valid-requires : tie.Need-view-valid-requires
 view-valid-requires c κs =
-    let p = passed _ _ _ (sym (c .before .before .before .validate .ensures) ∙ c .before .enum-told .given .1) in
+    let p = passed _ _ _ (sym (c .before .before .before .validate-run .ensures) ∙ c .before .enum-told .given .1) in
     (p .size, p .room)
 
 returns : tie.Need-returns
 unfolding viewCall
 returns c =
-    rw (← c .before .before .before .before .validate .ensures, c .before .before .refusal .given .1) (called-is _ (c .answer-of .ensures) refl refl refl)
+    rw (← c .before .before .before .before .validate-run .ensures, c .before .before .refusal .given .1) (called-is _ (c .answer-of .ensures) refl refl refl)
 
 same-length : tie.Need-same-length
 same-length c = search needs
@@ -39,14 +39,14 @@ returns-2 c =
     let told = c .before .before .before .before in
     let checked = told .before .before in
     let start = checked .before .before .before .before in
-    rw (← checked .validate .ensures, told .enum-told .given .1)
+    rw (← checked .validate-run .ensures, told .enum-told .given .1)
     (called-is _ refl refl refl (c .before .before .view-valid .ensures (start .args .memory .now)))
 
 pub view-spec : {M : Type 1} → statement M
 view-spec =
     tie.close
     (tie.spec
-    validate-requires
+    validate-run-requires
     enum-known-refusal
     answer-of-requires
     enum-told

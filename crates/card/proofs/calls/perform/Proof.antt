@@ -10,8 +10,8 @@ use Rattle.command.specs.Laws.{read-whole}
 use Rattle.card.proofs.calls.perform.Statement.{statement}
 use Rattle.card.proofs.calls.perform.Tie as tie
 
-validate-requires : tie.Need-validate-requires
-validate-requires c κs = search needs
+validate-card-requires : tie.Need-validate-card-requires
+validate-card-requires c κs = search needs
 
 enum-known-validity : tie.Need-enum-known-validity
 enum-known-validity c = search needs
@@ -27,7 +27,7 @@ good :
     (c : tie.After-enum-told)
     → let start = c .before .before .before .before .before .before .before .before .args in
     Passed (length (start .memory .now)) (start .image .now) (start .card .now) (length (start .report .now))
-good c = passed _ _ _ _ (rw (c .before .before .validate .ensures) at (c .enum-told .given .1))
+good c = passed _ _ _ _ (rw (c .before .before .validate-card .ensures) at (c .enum-told .given .1))
 
 execute-valid-requires : tie.Need-execute-valid-requires
 execute-valid-requires c κs =
@@ -41,7 +41,7 @@ same-length c = search needs
 returns : tie.Need-returns
 unfolding cardCall
 returns c =
-    rw (rw (c .before .before .before .before .validate .ensures) at (c .before .before .validity .given .1))
+    rw (rw (c .before .before .before .before .validate-card .ensures) at (c .before .before .validity .given .1))
     (called-is _ (c .answer-of .ensures) refl refl refl)
 
 same-length-2 : tie.Need-same-length-2
@@ -58,7 +58,7 @@ unfolding cardCall
 returns-2 c =
     let executed = c .before .before .before .before .before .before in
     let told = executed .before .before .before .before in
-    let checked = told .before .before .validate .ensures in
+    let checked = told .before .before .validate-card .ensures in
     let whole = read-whole _ (good told .read) .1 in
     let did = executed .execute-valid .ensures in
     rw (rw checked at (told .enum-told .given .1), whole) (called-is _ (rw (checked, whole)) (did .0) (did .1 .0) (did .1 .1))
@@ -67,7 +67,7 @@ pub perform-spec : {M : Type 1} → statement M
 perform-spec =
     tie.close
     (tie.spec
-    validate-requires
+    validate-card-requires
     enum-known-validity
     answer-of-requires
     enum-told

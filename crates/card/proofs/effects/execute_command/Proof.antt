@@ -16,8 +16,8 @@ set-byte-requires c κs = search needs
 enum-known-command-2 : tie.Need-enum-known-command-2
 enum-known-command-2 c = search needs
 
-set-register-requires : tie.Need-set-register-requires
-set-register-requires c κs = search needs
+assign-register-requires : tie.Need-assign-register-requires
+assign-register-requires c κs = search needs
 
 enum-known-command-3 : tie.Need-enum-known-command-3
 enum-known-command-3 c = search needs
@@ -68,7 +68,7 @@ returns-2 : tie.Need-returns-2
 unfolding effectOf
 returns-2 c =
     let start = c .before .before .before .before .before .before .args in
-    silent (start .state) (start .memory .now) (start .report .now) (start .filled) (c .before .before .command2 .given .1) refl (rw (c .set-register .ensures))
+    silent (start .state) (start .memory .now) (start .report .now) (start .filled) (c .before .before .command2 .given .1) refl (rw (c .assign-register .ensures))
 
 returns-3 : tie.Need-returns-3
 unfolding effectOf
@@ -113,7 +113,7 @@ execute-command-spec =
     enum-known-command
     set-byte-requires
     enum-known-command-2
-    set-register-requires
+    assign-register-requires
     enum-known-command-3
     add-lines-requires
     enum-known-command-4

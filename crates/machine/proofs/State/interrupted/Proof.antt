@@ -1,7 +1,7 @@
 -- `machine::State::interrupted` meets its contract.
 -- Assumes nothing.
 use mathlib.Core.Path.{refl}
-use Rattle.status.specs.Lines.{interruptIn}
+use Rattle.status.specs.Pending.{interruptIn}
 use Rattle.machine.proofs.State.interrupted.Statement.{statement}
 use Rattle.machine.proofs.State.interrupted.Tie as tie
 

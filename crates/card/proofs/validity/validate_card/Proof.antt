@@ -1,9 +1,9 @@
--- `card::validity::validate` meets its contract.
+-- `card::validity::validate_card` meets its contract.
 -- Assumes nothing.
 use borrow.Author.Needs.{needs}
 use Rattle.card.specs.Call.{cardValid}
-use Rattle.card.proofs.validity.validate.Statement.{statement}
-use Rattle.card.proofs.validity.validate.Tie as tie
+use Rattle.card.proofs.validity.validate_card.Statement.{statement}
+use Rattle.card.proofs.validity.validate_card.Tie as tie
 
 count-requires : tie.Need-count-requires
 count-requires c κs = search needs
@@ -11,8 +11,8 @@ count-requires c κs = search needs
 mul-needed : tie.Need-mul-needed
 mul-needed c = search needs
 
-validate-requires : tie.Need-validate-requires
-validate-requires c κs = search needs
+validate-machine-requires : tie.Need-validate-machine-requires
+validate-machine-requires c κs = search needs
 
 report-fits-requires : tie.Need-report-fits-requires
 report-fits-requires c κs = search needs
@@ -31,17 +31,17 @@ returns c =
       c .and-then2 .ensures,
       c .before .and-then .ensures,
       c .before .before .report-fits .ensures,
-      machine .validate .ensures,
+      machine .validate-machine .ensures,
       machine .before .before .count .ensures .0,
     )
 
-pub validate-spec : {M : Type 1} → statement M
-validate-spec =
+pub validate-card-spec : {M : Type 1} → statement M
+validate-card-spec =
     tie.close
     (tie.spec
     count-requires
     mul-needed
-    validate-requires
+    validate-machine-requires
     report-fits-requires
     and-then-requires
     and-then-requires-2

@@ -1,4 +1,4 @@
--- `status::lines::without` meets its contract.
+-- `status::pending::without` meets its contract.
 -- Assumes nothing.
 use mathlib.Core.Path.{sym, _≡_}
 use Prim.Native.Nat.{ℕ, _%_, _*_, _-_, _<_, _^_, _≤_}
@@ -7,8 +7,8 @@ use native.Mathlib.Omega.{arith}
 use lib.Dec.{lit<}
 use lib.Pow.{pow-mono}
 use borrow.Author.Needs.{needs}
-use Rattle.status.proofs.lines.without.Statement.{statement}
-use Rattle.status.proofs.lines.without.Tie as tie
+use Rattle.status.proofs.pending.without.Statement.{statement}
+use Rattle.status.proofs.pending.without.Tie as tie
 
 small : (k : ℕ) → k < 16 → (1 * 2 ^ k) % 65536 ≡ 2 ^ k
 small k h = rw (one-mul (2 ^ k)) (mod-eq-of-lt (lt-of-le-of-lt (pow-mono (le-of-suc-le-suc h)) (lit< tt)))

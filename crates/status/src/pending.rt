@@ -1,6 +1,6 @@
 // Pending lines: bit n is interrupt n.
 ghost use mathlib.Core.Path.{_≡_};
-ghost use Rattle.status.specs.Lines as def;
+ghost use Rattle.status.specs.Pending as def;
 
 // The lines without one of them.
 pub fn without(lines: u16, line: u8) -> u16

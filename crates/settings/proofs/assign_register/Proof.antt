@@ -1,10 +1,10 @@
--- `settings::set_register` meets its contract.
+-- `settings::assign_register` meets its contract.
 -- Assumes nothing.
 use borrow.Author.Needs.{needs}
 use borrow.Author.Tests.{le-ltb, lt-ltb, ne-eqb}
 use Rattle.settings.specs.Settings.{withRegister}
-use Rattle.settings.proofs.set_register.Statement.{statement}
-use Rattle.settings.proofs.set_register.Tie as tie
+use Rattle.settings.proofs.assign_register.Statement.{statement}
+use Rattle.settings.proofs.assign_register.Tie as tie
 
 mul-regs : tie.Need-mul-regs
 mul-regs c = search needs
@@ -28,6 +28,6 @@ returns-4 : tie.Need-returns-4
 unfolding withRegister
 returns-4 c = rw (le-ltb _ 13 (c .if1 .left), ne-eqb _ _ (c .before .match .rest .0 .1), ne-eqb _ _ (c .before .match .rest .1))
 
-pub set-register-spec : {M : Type 1} → statement M
-set-register-spec =
+pub assign-register-spec : {M : Type 1} → statement M
+assign-register-spec =
     tie.close (tie.spec mul-regs array-write-regs returns returns-2 returns-3 returns-4)

@@ -1,11 +1,11 @@
--- `layout::validity::validate` meets its contract.
+-- `layout::validity::validate_machine` meets its contract.
 -- Assumes nothing.
 use mathlib.Core.Path.{_∙_}
 use borrow.Author.Needs.{needs}
 use borrow.Author.Tests.{eq-eqb, ne-eqb}
 use Rattle.layout.specs.Valid.{machineValid}
-use Rattle.layout.proofs.validity.validate.Statement.{statement}
-use Rattle.layout.proofs.validity.validate.Tie as tie
+use Rattle.layout.proofs.validity.validate_machine.Statement.{statement}
+use Rattle.layout.proofs.validity.validate_machine.Tie as tie
 
 refused-requires : tie.Need-refused-requires
 refused-requires c κs = search needs
@@ -40,8 +40,8 @@ returns-4 c =
     c .refused3 .ensures
     ∙ rw (good .before .before .if1 .left, eq-eqb _ _ (good .before .if2 .left), ← good .good-image .ensures, c .before .if3 .left)
 
-pub validate-spec : {M : Type 1} → statement M
-validate-spec =
+pub validate-machine-spec : {M : Type 1} → statement M
+validate-machine-spec =
     tie.close
     (tie.spec
     refused-requires
