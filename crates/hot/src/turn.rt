@@ -1,9 +1,12 @@
 // The instructions that move: stores, jumps, the stack; and the instruction of a first word.
 ghost use mathlib.Core.Path.{_≡_};
 ghost use Prim.Native.Nat.{_%_, _*_, _+_, _/_, _<_};
-ghost use lib.ListN.{length};
+ghost use lib.ListN.{getD, length};
 ghost use Rattle.decode.specs.Code.{CALL, JUMP, NO, PUSH, RET, ST};
+ghost use Rattle.mmu.specs.declared.Right.the-variants as right;
+ghost use Rattle.pages.specs.Accesses.{Reads};
 ghost use Rattle.word.specs.Word.{upper};
+ghost use Rattle.word.specs.declared.Width.the-variants as width;
 ghost use Rattle.hot.specs.Tells.{Added, Stored, Tells};
 use crate::Hot;
 use decode::NO_CONDITION;
@@ -35,6 +38,14 @@ fn added(regs: &[u16; 16], mode: u16, w: u16) -> u32
         return 0;
     }
     register(regs, w)
+}
+
+// The word at SP.
+fn top(regs: &[u16; 16], map: &[u16; 256], mem: &[u8]) -> u32
+    requires { ⌜ length (now mem) ≡ 65536 ⌝ }
+    ensures { λ r. ⌜ (r < 65536 → Reads (now (map .entry)) (now (mem .entry)) right.Read width.Word (getD (now (regs .entry)) 13 0) r) ⌝ }
+{
+    read(map, mem, Width::Word, wide(regs[SP]))
 }
 
 impl Hot {
@@ -114,12 +125,11 @@ impl Hot {
         if USP <= d {
             return self.stop();
         }
-        let sp = regs[SP];
-        let x = read(map, mem, Width::Word, wide(sp));
+        let x = top(regs, map, mem);
         if NONE <= x {
             return self.stop();
         }
-        regs[SP] = plus(sp, 2);
+        regs[SP] = plus(regs[SP], 2);
         regs[d] = x as u16;
         self.to(plus(self.pc, 2), 6)
     }
@@ -132,12 +142,11 @@ impl Hot {
         if mode != 0 {
             return self.stop();
         }
-        let sp = regs[SP];
-        let x = read(map, mem, Width::Word, wide(sp));
+        let x = top(regs, map, mem);
         if NONE <= x {
             return self.stop();
         }
-        regs[SP] = plus(sp, 2);
+        regs[SP] = plus(regs[SP], 2);
         self.to(x as u16, 6)
     }
 
