@@ -2,6 +2,7 @@
 pub mod code;
 mod opcode;
 mod operands;
+pub mod register;
 mod table;
 
 pub use opcode::NO_CONDITION;

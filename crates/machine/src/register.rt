@@ -3,11 +3,7 @@ ghost use mathlib.Core.Path.{_≡_};
 ghost use Rattle.machine.specs.Register as def;
 ghost use Rattle.machine.specs.State.{withPc};
 use crate::State;
-
-// The numbers of the registers that are no word of `regs`, and of FP, the last that is.
-pub const FP: u8 = 12;
-
-pub const SP: u8 = 13;
+use decode::register::SP;
 
 impl State {
     // Register 13: SSP in kernel mode, USP in user mode.

@@ -3,6 +3,7 @@ ghost use mathlib.Core.Path.{_≡_};
 ghost use lib.ListN.{set};
 ghost use Rattle.machine.specs.State.{withMmu, withTlb};
 ghost use Rattle.settings.specs.Settings as def;
+use decode::register::*;
 use machine::Ports;
 use machine::State;
 
@@ -11,9 +12,9 @@ pub fn assign_register(mut state: State, number: u8, value: u16) -> State
     ensures { λ r. ⌜ r ≡ def.withRegister state number value ⌝ }
 {
     match number {
-        13 => state.ssp = value,
-        14 => state.usp = value,
-        0..=12 => {
+        SP => state.ssp = value,
+        USP => state.usp = value,
+        0..=FP => {
             let mut regs = state.regs;
             regs[number as usize] = value;
             state.regs = regs;

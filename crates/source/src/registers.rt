@@ -4,12 +4,12 @@ ghost use Prim.Native.Nat.{_%_, _<_};
 ghost use Rattle.source.specs.Fields.{RegRead};
 use pages::NONE;
 
-// The places of FP and of SP among the registers. 14, USP, is no place here.
-pub const FP: usize = 12;
+// The places of FP and of SP among the registers. USP is no place here.
+pub const FP: usize = decode::register::FP as usize;
 
-pub const SP: usize = 13;
+pub const SP: usize = decode::register::SP as usize;
 
-pub const USP: usize = 14;
+pub const USP: usize = decode::register::USP as usize;
 
 pub fn wide(x: u16) -> u32
     ensures { λ r. ⌜ r ≡ x ⌝ }
