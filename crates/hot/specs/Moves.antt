@@ -17,7 +17,8 @@ use Rattle.status.specs.Flag.{holds}
 use Rattle.word.specs.Word.{minus, plus, upper}
 use Rattle.source.specs.Fields.{modeOf}
 use Rattle.source.specs.Sources.{Named, SourceIs}
-use Rattle.hot.specs.Tells.{Added, Operates, Stored, Stores, Target, Tells, act, called, done, goes, idled, jumped, operated, passed, popped, pushed, returned, sOf, stay, stays, stop, stored, to, zOf}
+use Rattle.hot.specs.Tells.{Added, Operates, Stored, Stores, Target, Tells, sOf, to, zOf}
+use Rattle.hot.specs.Tells.{act, called, done, goes, idled, jumped, operated, passed, popped, pushed, returned, stay, stays, stop, stored}
 use Rattle.hot.specs.declared.Hot.{Hot}
 use Rattle.source.specs.declared.operand.Source.{Source}
 

@@ -33,7 +33,9 @@ quick-requires-2 c κs = search needs
 
 -- what the loop has done, by the map of either mode
 record Led (c : tie.Joined1) : Type 0 where
-  goes : Goes (c .before .before .before .before .before .before .before .args .state) (c .before .before .before .before .before .before .before .args .mem .now) (c .if1 .q .steps) (c .if1 .q .states)
+  goes :
+      Goes (c .before .before .before .before .before .before .before .args .state) (c .before .before .before .before .before .before .before .args .mem .now)
+      (c .if1 .q .steps) (c .if1 .q .states)
       (hotState (c .before .before .before .before .before .before .before .args .state) (c .if1 .regs) (c .if1 .q .hot)) (c .if1 .mem)
   steps : c .if1 .q .steps ≤ c .before .before .before .before .before .before .before .args .allowance
   states : c .if1 .q .states ≤ 65535 * c .if1 .q .steps
