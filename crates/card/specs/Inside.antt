@@ -5,6 +5,7 @@ use Prim.Native.Nat.{ℕ, _*_, _+_}
 use lib.ListN.{drop, take}
 use Rattle.command.specs.Card.{readFrom, runsIn}
 use Rattle.command.specs.declared.Command.{Command}
+use Rattle.image.specs.Decode.{stateFrom}
 use Rattle.machine.specs.declared.State.{State}
 use Rattle.report.specs.Layout.{reportSize}
 use Rattle.card.specs.Effect.{Effect, executeOf}
@@ -16,6 +17,10 @@ commandsOf card = (readFrom card 0) .commands
 -- what they do
 abbrev pub cardEffect : List ℕ → State → List ℕ → Effect
 cardEffect card st m = executeOf (commandsOf card) st m
+
+-- the same from an image
+abbrev pub imageEffect : List ℕ → List ℕ → List ℕ → Effect
+imageEffect card b m = cardEffect card (stateFrom b) m
 
 -- the report bytes that they fill
 abbrev pub filledOf : List ℕ → ℕ

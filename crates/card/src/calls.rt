@@ -4,9 +4,8 @@ ghost use mathlib.Core.Path.{_≡_};
 ghost use Prim.Native.Nat.{_≤_};
 ghost use lib.ListN.{drop, length};
 ghost use Rattle.card.specs.Call as def;
-ghost use Rattle.card.specs.Inside.{cardEffect, filledOf};
+ghost use Rattle.card.specs.Inside.{filledOf, imageEffect};
 ghost use Rattle.command.specs.Card.{cardSize};
-ghost use Rattle.image.specs.Decode.{stateFrom};
 ghost use Rattle.image.specs.Image.{imageOf};
 ghost use Rattle.layout.specs.Layout.{imageSize};
 ghost use Rattle.refusal.specs.Call.{called};
@@ -17,9 +16,9 @@ use refusal::Validity;
 // A card on buffers that are valid.
 fn execute_valid(memory: &mut [u8], image: &mut [u8], card: &[u8], report: &mut [u8])
     requires { ⌜ (length (now memory) ≡ 65536) × (length (now image) ≡ imageSize) × (length (now card) ≤ cardSize) × (filledOf (now card) ≤ length (now report)) ⌝ }
-    ensures memory { λ _. ⌜ now (memory .exit) ≡ (cardEffect (now (card .entry)) (stateFrom (now (image .entry))) (now (memory .entry))) .memory ⌝ }
-    ensures image { λ _. ⌜ now (image .exit) ≡ imageOf ((cardEffect (now (card .entry)) (stateFrom (now (image .entry))) (now (memory .entry))) .state) ⌝ }
-    ensures report { λ _. ⌜ now (report .exit) ≡ (cardEffect (now (card .entry)) (stateFrom (now (image .entry))) (now (memory .entry))) .reports ++ drop (filledOf (now (card .entry))) (now (report .entry)) ⌝ }
+    ensures memory { λ _. ⌜ now (memory .exit) ≡ (imageEffect (now (card .entry)) (now (image .entry)) (now (memory .entry))) .memory ⌝ }
+    ensures image { λ _. ⌜ now (image .exit) ≡ imageOf ((imageEffect (now (card .entry)) (now (image .entry)) (now (memory .entry))) .state) ⌝ }
+    ensures report { λ _. ⌜ now (report .exit) ≡ (imageEffect (now (card .entry)) (now (image .entry)) (now (memory .entry))) .reports ++ drop (filledOf (now (card .entry))) (now (report .entry)) ⌝ }
 {
     let state = image::read_image(image);
     let last = execute(state, memory, card, report);
