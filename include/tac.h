@@ -1,4 +1,4 @@
-/* The TaC emulator: runs, bench cards and views of a machine in buffers that the caller lends.
+/* The TaC emulator: runs and bench cards, views of a machine and looks at its fault record, in buffers that the caller lends.
  *
  * A machine is TAC_MEMORY_BYTES of memory and a state image of TAC_IMAGE_BYTES. Numbers in the image and in a report stand upper byte
  * first.
@@ -24,9 +24,9 @@
 extern "C" {
 #endif
 
-/* The version of this interface. MAJOR goes up where a caller has to change, as for another size of the image. */
+/* The version of this interface. MAJOR goes up where a caller has to change, as for another size of the image; MINOR with a new call. */
 #define TAC_VERSION_MAJOR 1
-#define TAC_VERSION_MINOR 0
+#define TAC_VERSION_MINOR 1
 
 #define TAC_MEMORY_BYTES 65536
 #define TAC_IMAGE_BYTES 68
@@ -142,10 +142,14 @@ enum {
     TAC_REPORT_LENGTH = 8   /* the report is too short */
 };
 
-/* The parts of an answer: a refusal × 2^32 + P, or, where nothing is refused, the number of report bytes filled. */
+/* The parts of an answer: a refusal × 2^32 + P, or, where nothing is refused, the number of report bytes filled, and of tac_fault the
+ * fault record: cause × 2^24 + missed page × 2^16 + violation address. */
 #define TAC_REFUSAL(answer) ((unsigned)((answer) >> 32))
 #define TAC_PLACE(answer) ((uint32_t)(answer))
 #define TAC_FILLED(answer) ((uint32_t)(answer))
+#define TAC_FAULT_CAUSE(answer) ((unsigned)((answer) >> 24 & 0xFF)) /* of TAC_CAUSE bits */
+#define TAC_FAULT_MISSED(answer) ((unsigned)((answer) >> 16 & 0xFF))
+#define TAC_FAULT_VIOLATION(answer) ((unsigned)((answer) & 0xFFFF))
 
 /* A run of at most `allowance` steps. Memory and image are those after it; its 12 bytes stand at the front of the report, and the bytes
  * behind them are kept. Refusals 1, 2, 3 and 8. */
@@ -157,8 +161,12 @@ uint64_t tac_run(uint8_t *memory, size_t memory_len, uint8_t *image, size_t imag
 uint64_t tac_card(uint8_t *memory, size_t memory_len, uint8_t *image, size_t image_len, const uint8_t *card, size_t card_len, uint8_t *report,
                   size_t report_len);
 
-/* A look at a machine: the report that a run of no step would write. Memory and image are only read. Refusals 1, 2, 3 and 8. */
+/* A view of a machine: the report that a run of no step would write. Memory and image are only read. Refusals 1, 2, 3 and 8. */
 uint64_t tac_view(const uint8_t *memory, size_t memory_len, const uint8_t *image, size_t image_len, uint8_t *report, size_t report_len);
+
+/* A look at the fault record: cause, missed page and violation address, whether the machine is running, halted or lost. The image is only
+ * read, and IN of A4h still finds the cause. Refusals 2 and 3. */
+uint64_t tac_fault(const uint8_t *image, size_t image_len);
 
 #ifdef __cplusplus
 }

@@ -68,13 +68,18 @@ static bool take_end(const struct line *line)
     return line->used == line->count || bad(line, line->words[line->used], " is too much");
 }
 
-static bool do_show(struct line *line)
+/* A command of no words that only shows. */
+static bool look(const struct line *line, void (*show)(const struct machine *machine))
 {
     if (!take_end(line))
         return false;
-    show_machine(&line->session->machine);
+    show(&line->session->machine);
     return true;
 }
+
+static bool do_show(struct line *line) { return look(line, show_machine); }
+
+static bool do_fault(struct line *line) { return look(line, show_fault); }
 
 static bool do_step(struct line *line)
 {
@@ -203,6 +208,7 @@ struct command {
 
 static const struct command commands[] = {
     {"show", "", "", "the machine, and the instructions round PC", do_show},
+    {"fault", "f", "", "the fault record; its cause stays for the kernel's IN of A4h", do_fault},
     {"step", "s", "[N]", "N steps", do_step},
     {"go", "g", "ADDR [LIMIT]", "steps until PC is ADDR", do_go},
     {"continue", "c", "[LIMIT]", "steps to the next kernel entry", do_continue},

@@ -39,18 +39,16 @@ static void right_words(const struct machine *machine, unsigned address, char *t
 }
 
 /* There is a cause. */
-static void violation_words(const struct machine *machine, char *text, size_t room)
+static void violation_words(const struct machine *machine, struct fault fault, char *text, size_t room)
 {
-    unsigned address = word_in(machine->image, TAC_IMAGE_VIOLATION);
-    unsigned cause = machine->image[TAC_IMAGE_CAUSE];
-    if (cause == TAC_CAUSE_ODD)
-        snprintf(text, room, "odd address %04Xh", address);
-    else if (cause == TAC_CAUSE_RIGHT)
-        right_words(machine, address, text, room);
-    else if (address % 2 != 0)
-        snprintf(text, room, "odd address or no right at %04Xh, both causes are set", address);
+    if (fault.cause == TAC_CAUSE_ODD)
+        snprintf(text, room, "odd address %04Xh", fault.violation);
+    else if (fault.cause == TAC_CAUSE_RIGHT)
+        right_words(machine, fault.violation, text, room);
+    else if (fault.violation % 2 != 0)
+        snprintf(text, room, "odd address or no right at %04Xh, both causes are set", fault.violation);
     else { /* an even address is no odd one: that was before */
-        right_words(machine, address, text, room);
+        right_words(machine, fault.violation, text, room);
         size_t used = strlen(text);
         snprintf(text + used, room - used, "; an odd address before");
     }
@@ -59,15 +57,26 @@ static void violation_words(const struct machine *machine, char *text, size_t ro
 void entry_words(const struct machine *machine, unsigned number, char *text, size_t room)
 {
     static const char *const words[] = {"division by zero", "privilege", "undefined instruction", "SVC"};
+    struct fault fault = machine_fault(machine);
     int used = snprintf(text, room, "%u: ", number);
     text += used;
     room -= (size_t)used;
     if (number < TAC_NUMBER_MISS)
         snprintf(text, room, "interrupt");
     else if (number == TAC_NUMBER_MISS)
-        snprintf(text, room, "no entry for page %02Xh", machine->image[TAC_IMAGE_MISSED]);
+        snprintf(text, room, "no entry for page %02Xh", fault.missed);
     else if (number == TAC_NUMBER_VIOLATION)
-        violation_words(machine, text, room);
+        violation_words(machine, fault, text, room);
     else
         snprintf(text, room, "%s", number <= TAC_NUMBER_SVC ? words[number - TAC_NUMBER_DIVISION] : "unknown");
+}
+
+void cause_words(const struct machine *machine, struct fault fault, char *text, size_t room)
+{
+    if (fault.cause == 0) {
+        snprintf(text, room, "no cause, violation address %04Xh", fault.violation);
+        return;
+    }
+    int used = snprintf(text, room, "cause %u, ", fault.cause);
+    violation_words(machine, fault, text + used, room - (size_t)used);
 }

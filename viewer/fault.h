@@ -12,4 +12,8 @@
  * WORDS_BYTES. */
 void entry_words(const struct machine *machine, unsigned number, char *text, size_t room);
 
+/* The cause and the violation address of a record, as "cause 1, no write right at 1210h, entry 0", or "no cause, violation address 1210h".
+ * The text has WORDS_BYTES. */
+void cause_words(const struct machine *machine, struct fault fault, char *text, size_t room);
+
 #endif

@@ -47,14 +47,28 @@ uint64_t machine_test(const struct machine *machine)
     return tac_view(machine->memory, sizeof machine->memory, machine->image, sizeof machine->image, report, sizeof report);
 }
 
+/* The machine is good, so a refusal is the viewer's own error. */
+static void must_be_good(uint64_t answer, const char *call)
+{
+    if (TAC_REFUSAL(answer) != TAC_GOOD)
+        fail("the library refuses %s: %u", call, TAC_REFUSAL(answer));
+}
+
 struct report machine_run(struct machine *machine, unsigned allowance)
 {
     uint8_t report[TAC_REPORT_BYTES];
     uint64_t answer = tac_run(machine->memory, sizeof machine->memory, machine->image, sizeof machine->image, (uint16_t)allowance, report,
                               sizeof report);
-    if (TAC_REFUSAL(answer) != TAC_GOOD)
-        fail("the library refuses a run: %u", TAC_REFUSAL(answer));
+    must_be_good(answer, "a run");
     return report_in(report);
+}
+
+struct fault machine_fault(const struct machine *machine)
+{
+    uint64_t answer = tac_fault(machine->image, sizeof machine->image);
+    must_be_good(answer, "a look at the fault record");
+    struct fault fault = {TAC_FAULT_CAUSE(answer), TAC_FAULT_MISSED(answer), TAC_FAULT_VIOLATION(answer)};
+    return fault;
 }
 
 unsigned machine_pc(const struct machine *machine) { return word_in(machine->image, TAC_IMAGE_PC); }

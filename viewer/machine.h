@@ -18,6 +18,11 @@ struct report {
     unsigned pc, flag;
 };
 
+/* The fault record. */
+struct fault {
+    unsigned cause, missed, violation;
+};
+
 /* How an address is taken: as the machine would now, as a user program would (by the TLB if the MMU is on), or as it is. */
 enum space { SPACE_NOW, SPACE_LOGICAL, SPACE_PHYSICAL };
 
@@ -31,6 +36,9 @@ void machine_reset(struct machine *machine);
 uint64_t machine_test(const struct machine *machine);
 
 struct report machine_run(struct machine *machine, unsigned allowance);
+
+/* The answer of tac_fault: the machine keeps its cause. */
+struct fault machine_fault(const struct machine *machine);
 
 unsigned machine_pc(const struct machine *machine);
 

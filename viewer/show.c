@@ -80,14 +80,12 @@ static void print_lines(const uint8_t *image)
     printf("%s\n", pending == 0 ? " none" : "");
 }
 
-static void print_faults(const struct machine *machine)
+void show_fault(const struct machine *machine)
 {
-    char text[WORDS_BYTES];
-    if (machine->image[TAC_IMAGE_CAUSE] == 0)
-        snprintf(text, sizeof text, "no cause, violation address %04Xh", word_in(machine->image, TAC_IMAGE_VIOLATION));
-    else
-        entry_words(machine, TAC_NUMBER_VIOLATION, text, sizeof text);
-    printf("fault record: %s; missed page %02Xh\n", text, machine->image[TAC_IMAGE_MISSED]);
+    struct fault fault = machine_fault(machine);
+    char words[WORDS_BYTES];
+    cause_words(machine, fault, words, sizeof words);
+    printf("fault record: %s; missed page %02Xh\n", words, fault.missed);
 }
 
 /* Writes the words and the instruction at an address. Answers its words, 1 where it is none. */
@@ -144,7 +142,7 @@ void show_machine(const struct machine *machine)
     print_registers(machine->image);
     print_tlb(machine);
     print_lines(machine->image);
-    print_faults(machine);
+    show_fault(machine);
     print_round_pc(machine);
 }
 

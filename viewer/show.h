@@ -7,6 +7,9 @@
 /* Registers, FLAG, MMU and TLB, lines, bytes, condition, fault record, and the instructions round PC. */
 void show_machine(const struct machine *machine);
 
+/* The fault record, in a line. */
+void show_fault(const struct machine *machine);
+
 void show_memory(const struct machine *machine, enum space space, unsigned address, unsigned bytes);
 void show_instructions(const struct machine *machine, enum space space, unsigned address, unsigned count);
 

@@ -1,7 +1,19 @@
-//! Small starts for single tests.
+//! Small starts for single tests, and calls by each emulator.
 
 use tac_tests::assemble::put_words;
+use tac_tests::case::{difference, perform, Call, Case, Emulator, Outcome, OWN};
 use tac_tests::emulator::{Ending, Machine, Report, P};
+#[cfg(feature = "library")]
+use tac_tests::ffi::LIBRARY;
+use tac_tests::image;
+use tac_tests::report::{report_bytes, REPORT};
+
+/// This package's emulator, and with the feature `library` the library.
+pub const EMULATORS: &[Emulator] = &[
+    OWN,
+    #[cfg(feature = "library")]
+    LIBRARY,
+];
 
 /// Kernel mode, PC 0100h, SSP 1000h, with these words at PC.
 pub fn kernel(words: &[u16]) -> Machine {
@@ -35,6 +47,32 @@ pub fn put(m: &mut Machine, address: usize, words: &[u16]) {
 
 pub fn get(m: &Machine, address: usize) -> u16 {
     u16::from_be_bytes([m.memory[address], m.memory[address + 1]])
+}
+
+/// A call on this machine, with a report of 12 bytes.
+pub fn case_of(m: &Machine, call: Call) -> Case {
+    Case { memory: m.memory.clone(), image: image::write(m).to_vec(), report: vec![0xEE; REPORT], call }
+}
+
+/// What the call gives; each emulator gives the same.
+pub fn outcome(case: &Case) -> Outcome {
+    let [mut own, mut other] = [Outcome::default(), Outcome::default()];
+    perform(&OWN, case, &mut own);
+    for emulator in &EMULATORS[1..] {
+        perform(emulator, case, &mut other);
+        assert_eq!(difference(&own, &other), None, "{}", emulator.name);
+    }
+    own
+}
+
+/// A run by the machine and by each emulator's call.
+pub fn run(m: &mut Machine, allowance: u16) -> Report {
+    let out = outcome(&case_of(m, Call::Run(allowance)));
+    let report = m.run(allowance);
+    let (image, bytes) = (image::write(m).to_vec(), report_bytes(&report).to_vec());
+    assert_eq!((out.answer, out.image, out.report), (REPORT as u64, image, bytes));
+    assert!(out.memory == m.memory, "memory differs");
+    report
 }
 
 /// One step from outside: a run with allowance 1.

@@ -69,7 +69,7 @@ fn stored_is_varied() {
 }
 
 /// Listings that were worked out by hand from document 01.
-const BY_HAND: [(&str, &str); 21] = [
+const BY_HAND: [(&str, &str); 24] = [
     ("the worked card", "runs 2\nentered 15 4 21 0008 0040\nhalted - 1 5 0002 0040\n"),
     ("an empty card", "runs 0\n"),
     // ADD in mode 5 and a jump; PC goes from FFFEh to 0000h, then to G0.
@@ -108,6 +108,19 @@ const BY_HAND: [(&str, &str); 21] = [
     ),
     // NO and the fault; two IN and a jump to the address; a jump to the cause.
     ("11: a read without right", "runs 3\nentered 11 2 15 1202 0000\nspent - 3 19 1580 0040\nspent - 1 5 0001 0040\n"),
+    // The fault; two IN and a jump to the first value; a jump to the second.
+    (
+        "11: the cause read twice, 1 for a missing right, then 0",
+        "runs 3\nentered 11 1 12 1200 0000\nspent - 3 19 0001 0040\nspent - 1 5 0000 0040\n",
+    ),
+    (
+        "11: the cause read twice, 2 for an odd address, then 0",
+        "runs 3\nentered 11 1 12 1200 0000\nspent - 3 19 0002 0040\nspent - 1 5 0000 0040\n",
+    ),
+    (
+        "11: the cause read twice, 3 for both, then 0",
+        "runs 4\nentered 11 1 12 1200 0000\nentered 11 1 12 1204 0000\nspent - 3 19 0003 0040\nspent - 1 5 0000 0040\n",
+    ),
     ("10: a page that is not there", "runs 2\nentered 10 2 15 1202 0000\nspent - 2 12 007E 0040\n"),
     ("12: a division by 0", "runs 2\nentered 12 2 16 1202 0009\nspent - 0 0 0C00 0049\n"),
     // 8 turns of 20 states, the last jump not taken: 5 + 159 + 6 + 12.
@@ -172,7 +185,7 @@ fn example_cards() {
         assert_eq!(card::bench(&card), text(&format!("examples/{name}.txt")), "{name}");
         names.push(name);
     }
-    for name in ["worked", "pages", "fence", "winder", "refused"] {
+    for name in ["worked", "pages", "user", "fence", "winder", "cause", "refused"] {
         assert!(names.iter().any(|found| found == name), "no example {name}");
     }
 }

@@ -6,6 +6,7 @@ mod decoding;
 mod examples;
 mod files;
 mod layout;
+mod looks;
 mod random;
 mod refusals;
 mod replay;

@@ -49,11 +49,11 @@ fn leaks_are_seen() {
     assert!(failed > 5, "{failed}");
 }
 
-/// Runs and cards of all endings and refusals are made.
+/// Runs and cards of all endings and refusals are made, and looks that give each cause.
 #[test]
 fn cases_are_varied() {
     let (mut maker, mut case, mut out) = (Maker::new(), Case::empty(), Outcome::default());
-    let (mut refused, mut endings, mut entered) = ([0; 9], [0; 4], [0; 16]);
+    let (mut refused, mut endings, mut entered, mut looks) = ([0; 9], [0; 4], [0; 16], [0; 4]);
     for index in 0..3_000 {
         let mut rng = Rng::of_case(13, 1, index);
         if index % 2 == 0 {
@@ -67,6 +67,10 @@ fn cases_are_varied() {
         if refusal != 0 {
             continue;
         }
+        if case.call == Call::Fault {
+            looks[(out.answer >> 24) as usize] += 1;
+            continue;
+        }
         for report in out.report[..out.answer as usize].chunks(12) {
             endings[report[0] as usize] += 1;
             if report[0] == 1 {
@@ -77,6 +81,7 @@ fn cases_are_varied() {
     assert!(refused.iter().all(|n| *n > 0), "{refused:?}");
     assert!(endings.iter().all(|n| *n > 10), "{endings:?}");
     assert!(entered.iter().all(|n| *n > 0), "{entered:?}");
+    assert!(looks.iter().all(|n| *n > 0), "{looks:?}");
 }
 
 /// Shrinking keeps the failure and takes the rest away.

@@ -1,25 +1,29 @@
-//! The eight refusals, their order and positions, with everything untouched.
+//! The eight refusals, their order and positions, with everything untouched. With the feature `library` the library is
+//! tried as well.
 
 use crate::common::*;
 use tac_tests::card;
-use tac_tests::case::{perform, Call, Case, Outcome, OWN};
+use tac_tests::case::{Call, Case};
 use tac_tests::image;
 
 /// A good case: a program of two steps, a report of 40 bytes.
 fn good(call: Call) -> Case {
-    let m = kernel(&[0x0000, 0xF000]);
-    let image = image::write(&m).to_vec();
-    Case { memory: m.memory, image, report: vec![0xEE; 40], call }
+    Case { report: vec![0xEE; 40], ..case_of(&kernel(&[0x0000, 0xF000]), call) }
 }
 
+/// The calls that take memory and a report.
 fn three_calls() -> [Call; 3] {
     [Call::Run(7), Call::View, Call::Card(vec![0x04, 0x00, 0x07])]
 }
 
+/// All calls: each takes an image.
+fn four_calls() -> Vec<Call> {
+    [&three_calls()[..], &[Call::Fault]].concat()
+}
+
 /// The answer; on a refusal nothing is touched.
 fn answer(case: &Case) -> (u64, u64) {
-    let mut out = Outcome::default();
-    perform(&OWN, case, &mut out);
+    let out = outcome(case);
     if out.answer >> 32 != 0 {
         assert_eq!((&out.memory, &out.image, &out.report), (&case.memory, &case.image, &case.report));
     }
@@ -53,11 +57,13 @@ fn memory_length() {
 
 #[test]
 fn image_length() {
-    for call in three_calls() {
-        for length in [0, 1, 67, 69, 200] {
+    for call in four_calls() {
+        for length in [0, 1, 67, 69, 84, 200] {
             let mut case = good(call.clone());
             case.image.resize(length, 0xFF);
             case.report.clear();
+            assert_eq!(answer(&case), (2, 0));
+            case.image.fill(0xFF);
             assert_eq!(answer(&case), (2, 0));
         }
     }
@@ -66,7 +72,7 @@ fn image_length() {
 /// Every bit of the image: those beyond their values are refused, no other.
 #[test]
 fn image_fields() {
-    for call in three_calls() {
+    for call in four_calls() {
         for bit in 0..image::IMAGE * 8 {
             let mut case = good(call.clone());
             let (byte, mask) = (bit / 8, 0x80u8 >> (bit % 8));
@@ -88,9 +94,11 @@ fn image_fields() {
             }
         }
     }
-    let mut case = good(Call::View);
-    case.image[image::CONDITION] = 3;
-    assert_eq!(answer(&case), (3, 0));
+    for call in four_calls() {
+        let mut case = good(call);
+        case.image[image::CONDITION] = 3;
+        assert_eq!(answer(&case), (3, 0));
+    }
 }
 
 #[test]

@@ -4,10 +4,9 @@
 use crate::common::*;
 use tac_tests::assemble::Operand::*;
 use tac_tests::assemble::*;
-use tac_tests::case::{perform, Case, Outcome, RunCall, OWN};
+use tac_tests::case::{perform, Case, Outcome, OWN};
 use tac_tests::emulator::*;
-use tac_tests::image::{self, IMAGE};
-use tac_tests::report::{report_bytes, REPORT};
+use tac_tests::report::REPORT;
 use tac_tests::rng::Rng;
 use tac_tests::scenarios::SCENARIOS;
 
@@ -62,26 +61,6 @@ fn scenarios_come_to_their_point() {
         assert!(numbers.iter().all(|n| entered[*n as usize] > 0), "{name}: {entered:?}");
         assert!(spent > 20 && 5 * long > runs, "{name}: {spent} spent, {long} of {runs} long");
     }
-}
-
-/// What a call leaves: its answer, memory, image and report.
-type Left = (u64, Vec<u8>, [u8; IMAGE], [u8; REPORT]);
-
-fn by_call(call: RunCall, m: &Machine, allowance: u16) -> Left {
-    let (mut memory, mut state, mut report) = (m.memory.clone(), image::write(m), [0; REPORT]);
-    let answer = call(&mut memory, &mut state, allowance, &mut report);
-    (answer, memory, state, report)
-}
-
-/// A run by the machine and by each call that there is.
-fn run(m: &mut Machine, allowance: u16) -> Report {
-    let start = m.clone();
-    let report = m.run(allowance);
-    let own = (REPORT as u64, m.memory.clone(), image::write(m), report_bytes(&report));
-    assert!(by_call(OWN.run, &start, allowance) == own, "the call differs");
-    #[cfg(feature = "library")]
-    assert!(by_call(tac_tests::ffi::run, &start, allowance) == own, "the library differs");
-    report
 }
 
 fn spent(m: &mut Machine, allowance: u16) -> u32 {

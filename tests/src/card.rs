@@ -1,5 +1,5 @@
-//! Calls on byte buffers: run, card and view, with refusals 4 to 8, and the
-//! listing of `bench`.
+//! Calls on byte buffers: run, card, view and the look at the fault record,
+//! with refusals 4 to 8, and the listing of `bench`.
 
 use crate::emulator::{Machine, Report, FLAG_BITS, LINES, MEMORY, P, ZEROS};
 use crate::image::{self, Refusal};
@@ -95,7 +95,7 @@ fn act(machine: &mut Machine, command: Command) -> Option<Report> {
 
 fn answered(result: Result<usize, Refusal>) -> u64 {
     match result {
-        Ok(filled) => filled as u64,
+        Ok(number) => number as u64,
         Err(refusal) => refusal.answer(),
     }
 }
@@ -177,6 +177,12 @@ pub fn view(memory: &[u8], image: &[u8], report: &mut [u8]) -> u64 {
         Ok(REPORT)
     };
     answered(go())
+}
+
+/// A look at the fault record, as `tac_fault` answers it (document 02, request 1).
+pub fn fault(image: &[u8]) -> u64 {
+    let look = |()| image::read(Vec::new(), image).look() as usize;
+    answered(image::test_image(image).map(look))
 }
 
 /// One line of the listing: ending, number or `-`, steps, states, PC, FLAG.

@@ -4,28 +4,35 @@
 use crate::card;
 use crate::replay;
 use std::fmt::Write;
+use std::hint::black_box;
 use std::ops::Range;
 
 pub type RunCall = fn(&mut [u8], &mut [u8], u16, &mut [u8]) -> u64;
 pub type CardCall = fn(&mut [u8], &mut [u8], &[u8], &mut [u8]) -> u64;
 pub type ViewCall = fn(&[u8], &[u8], &mut [u8]) -> u64;
+pub type FaultCall = fn(&[u8]) -> u64;
 
-/// An emulator by its three calls.
+/// An emulator by its four calls.
 #[derive(Clone, Copy)]
 pub struct Emulator {
+    pub name: &'static str,
     pub run: RunCall,
     pub card: CardCall,
     pub view: ViewCall,
+    pub fault: FaultCall,
 }
 
 /// The emulator of this package.
-pub const OWN: Emulator = Emulator { run: card::run, card: card::card, view: card::view };
+pub const OWN: Emulator =
+    Emulator { name: "this emulator", run: card::run, card: card::card, view: card::view, fault: card::fault };
 
 #[derive(Clone, Debug, PartialEq, Eq)]
 pub enum Call {
     Run(u16),
     View,
     Card(Vec<u8>),
+    /// A look at the fault record. It takes the image alone; memory and report are there to stay as they are.
+    Fault,
 }
 
 /// The buffers as they are before the call.
@@ -60,12 +67,20 @@ pub fn perform(emulator: &Emulator, case: &Case, out: &mut Outcome) {
     out.image.extend_from_slice(&case.image);
     out.report.clear();
     out.report.extend_from_slice(&case.report);
+    go_on(emulator, &case.call, out);
+}
+
+/// Does a call on the buffers that the last one left.
+pub fn go_on(emulator: &Emulator, call: &Call, out: &mut Outcome) {
     let (memory, image, report) = (&mut out.memory, &mut out.image, &mut out.report);
-    out.answer = match &case.call {
+    out.answer = match call {
         Call::Run(allowance) => (emulator.run)(memory, image, *allowance, report),
         Call::View => (emulator.view)(memory, image, report),
         Call::Card(card) => (emulator.card)(memory, image, card, report),
+        Call::Fault => (emulator.fault)(image),
     };
+    // The compiler must not take for granted that C leaves what it is lent for reading.
+    black_box(out);
 }
 
 /// The first thing in which two outcomes differ.
@@ -201,7 +216,7 @@ pub fn describe(case: &Case, own: &Emulator, library: &Emulator) -> String {
     perform(own, case, &mut a);
     perform(library, case, &mut b);
     let mut text = replay::case_text(case);
-    for (name, outcome) in [("this emulator", &a), ("libtac", &b)] {
+    for (name, outcome) in [(own.name, &a), (library.name, &b)] {
         let _ = writeln!(text, "{name}:");
         let _ = writeln!(text, "  answer {:#x} (refusal {})", outcome.answer, outcome.answer >> 32);
         let _ = writeln!(text, "  image  {}", hex(&outcome.image));

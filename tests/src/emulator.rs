@@ -600,6 +600,16 @@ impl Machine {
     }
 }
 
+/// The fault record: cause, missed page and violation address.
+impl Machine {
+    /// "The same record has a reader that consumes and a reader that doesn't" (document 02, request 1): IN of A4h clears
+    /// the cause, this leaves it. The number is cause × 2^24 + missed page × 2^16 + violation address.
+    pub fn look(&self) -> u32 {
+        let [high, low] = self.violation.to_be_bytes();
+        u32::from_be_bytes([self.cause, self.missed, high, low])
+    }
+}
+
 fn entry(port: u16) -> usize {
     (port as usize - 0x80) / 4
 }

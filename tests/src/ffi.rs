@@ -1,5 +1,10 @@
 //! The C interface of libtac.a, with the same shape as `crate::card`.
 
+use crate::case::Emulator;
+
+/// The library.
+pub const LIBRARY: Emulator = Emulator { name: "libtac", run, card, view, fault };
+
 mod raw {
     extern "C" {
         pub fn tac_run(
@@ -31,6 +36,8 @@ mod raw {
             report: *mut u8,
             report_len: usize,
         ) -> u64;
+
+        pub fn tac_fault(image: *const u8, image_len: usize) -> u64;
     }
 }
 
@@ -69,4 +76,8 @@ pub fn view(memory: &[u8], image: &[u8], report: &mut [u8]) -> u64 {
     unsafe {
         raw::tac_view(memory.as_ptr(), memory.len(), image.as_ptr(), image.len(), report.as_mut_ptr(), report.len())
     }
+}
+
+pub fn fault(image: &[u8]) -> u64 {
+    unsafe { raw::tac_fault(image.as_ptr(), image.len()) }
 }

@@ -1,4 +1,4 @@
-//! Random cases: runs, cards, and pairs of memories for demand 3.
+//! Random cases: runs, cards, runs with looks between them, and pairs of memories for demand 3.
 
 use crate::assemble::put_words;
 use crate::card::{self, LONGEST};
@@ -6,6 +6,7 @@ use crate::case::{Call, Case};
 use crate::emulator::{Machine, E, EXECUTE, FLAG_BITS, I, LINES, MEMORY, P, READ, VALID};
 use crate::image;
 use crate::isolation::Pair;
+use crate::looks::Looks;
 use crate::program::{self, Ground, Style};
 use crate::report::REPORT;
 use crate::rng::Rng;
@@ -171,22 +172,36 @@ impl Maker {
         self.machine.pc = rng.pick(&[0xFFFE, 0xFFFC, 0xFFFA, 0xFFF0, 0x0000, 0x0002, 0xFFFF, 0xFEFE]);
     }
 
-    /// A run or a view of a random start, now and then with a bad buffer.
+    /// A run, a view or a look of a random start, now and then with a bad buffer.
     pub fn run_case(&mut self, rng: &mut Rng, case: &mut Case) {
         self.scene(rng);
-        let allowance = match rng.below(100) {
-            0..=4 => 0,
-            5..=24 => rng.between(1, 8) as u16,
-            25..=97 => rng.between(9, 600) as u16,
-            98 => rng.between(600, 65_535) as u16,
-            _ => rng.pick(&[65_534, 65_535]),
+        let allowance = allowance(rng);
+        case.call = match rng.below(100) {
+            0..=4 => Call::View,
+            5..=9 => Call::Fault,
+            _ => Call::Run(allowance),
         };
-        case.call = if rng.chance(5) { Call::View } else { Call::Run(allowance) };
         let length = if rng.chance(80) { REPORT } else { rng.between(12, 40) as usize };
         self.fill_case(rng, case, length);
-        if rng.chance(4) {
+        if rng.chance(if case.call == Call::Fault { 40 } else { 4 }) {
             spoil_buffers(rng, case);
         }
+    }
+
+    /// A run of a random start, and another one behind the looks. Half of the starts have no cause, so that what the look
+    /// shows is the run's.
+    pub fn looks(&mut self, rng: &mut Rng, looks: &mut Looks) {
+        self.scene(rng);
+        if rng.chance(50) {
+            self.machine.cause = 0;
+        }
+        if rng.chance(50) {
+            let frame = rng.below(255) as u8;
+            handlers(rng, &mut self.machine, frame);
+        }
+        looks.start.call = Call::Run(allowance(rng));
+        looks.more = allowance(rng);
+        self.fill_case(rng, &mut looks.start, REPORT);
     }
 
     fn fill_case(&mut self, rng: &mut Rng, case: &mut Case, report_length: usize) {
@@ -251,6 +266,17 @@ impl Maker {
                 rng.fill(&mut pair.second[frame * 256..frame * 256 + 256]);
             }
         }
+    }
+}
+
+/// Steps that a run may do: some hundreds mostly, now and then none or all.
+fn allowance(rng: &mut Rng) -> u16 {
+    match rng.below(100) {
+        0..=4 => 0,
+        5..=24 => rng.between(1, 8) as u16,
+        25..=97 => rng.between(9, 600) as u16,
+        98 => rng.between(600, 65_535) as u16,
+        _ => rng.pick(&[65_534, 65_535]),
     }
 }
 

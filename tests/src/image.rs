@@ -54,6 +54,11 @@ pub fn test(memory: &[u8], image: &[u8]) -> Result<(), Refusal> {
     if memory.len() != MEMORY {
         return Err(Refusal::plain(1));
     }
+    test_image(image)
+}
+
+/// Refusals 2 and 3, for a call without memory.
+pub fn test_image(image: &[u8]) -> Result<(), Refusal> {
     if image.len() != IMAGE {
         return Err(Refusal::plain(2));
     }

@@ -8,6 +8,7 @@ pub mod emulator;
 pub mod generate;
 pub mod image;
 pub mod isolation;
+pub mod looks;
 pub mod program;
 pub mod replay;
 pub mod report;

@@ -1,9 +1,9 @@
-//! Cases and pairs as text that `compare --replay` reads, and cases as cards for `bench`.
+//! Cases, pairs and runs with looks as text that `compare --replay` reads, and cases as cards for `bench`.
 //!
 //! The text stands between a line that begins with `case` and the line `end`; other lines around it are passed over:
 //!
 //! ```text
-//! case run 12          or: case view, case card 0400..., case pair 300
+//! case run 12          or: case view, case fault, case card 0400..., case run 12 looks 34, case pair 300
 //! image 0000...        the image's bytes
 //! report EEEE...       the report's bytes; a pair has none
 //! memory 65536         its length; zero but for the lines below
@@ -18,12 +18,14 @@ use crate::case::{hex, Call, Case};
 use crate::emulator::{MEMORY, P, RUNNING};
 use crate::image;
 use crate::isolation::Pair;
+use crate::looks::Looks;
 use crate::report::REPORT;
 use std::fmt::Write;
 
 #[derive(Clone, Debug)]
 pub enum Replay {
     Case(Case),
+    Looks(Looks),
     Pair(Pair),
 }
 
@@ -47,14 +49,24 @@ fn memory_text(name: &str, memory: &[u8]) -> String {
     text
 }
 
-pub fn case_text(case: &Case) -> String {
+/// A case with its call, and with what stands behind the call.
+fn text_with(case: &Case, behind: &str) -> String {
     let call = match &case.call {
         Call::Run(allowance) => format!("run {allowance}"),
         Call::View => "view".to_string(),
         Call::Card(card) => format!("card {}", hex(card)),
+        Call::Fault => "fault".to_string(),
     };
     let memory = memory_text("memory", &case.memory);
-    format!("case {call}\nimage {}\nreport {}\n{memory}end\n", hex(&case.image), hex(&case.report))
+    format!("case {call}{behind}\nimage {}\nreport {}\n{memory}end\n", hex(&case.image), hex(&case.report))
+}
+
+pub fn case_text(case: &Case) -> String {
+    text_with(case, "")
+}
+
+pub fn looks_text(looks: &Looks) -> String {
+    text_with(&looks.start, &format!(" looks {}", looks.more))
 }
 
 pub fn pair_text(pair: &Pair) -> String {
@@ -102,8 +114,13 @@ pub fn parse(text: &str) -> Result<Replay, String> {
     let call = match head[1..] {
         ["run", n] => Call::Run(allowance(n)?),
         ["view"] => Call::View,
+        ["fault"] => Call::Fault,
         ["card"] => Call::Card(Vec::new()),
         ["card", bytes] => Call::Card(bytes_of(bytes)?),
+        ["run", n, "looks", more] => {
+            let start = Case { memory: memory()?, image, report, call: Call::Run(allowance(n)?) };
+            return Ok(Replay::Looks(Looks { start, more: allowance(more)? }));
+        }
         ["pair", n] => {
             let image = image.try_into().map_err(|_| "a pair's image has 68 bytes")?;
             return Ok(Replay::Pair(Pair { allowance: allowance(n)?, image, first: memory()?, second: memory()? }));
@@ -157,6 +174,8 @@ pub fn as_card(case: &Case) -> Option<Vec<u8>> {
             Err(_) if setup.clone().bytes().is_empty() => return Some(bytes.clone()),
             Err(_) => return None,
         },
+        // No command looks.
+        Call::Fault => return None,
     };
     let bytes = card.bytes();
     (bytes.len() <= LONGEST && case.report.len() >= REPORT * needed).then_some(bytes)

@@ -123,6 +123,12 @@ fn violation(start: Card) -> Card {
     start.code(0x0B00, &handler).run(9).run(3).pc(0x0B0C).run(1)
 }
 
+/// A run that faults with 11; then the kernel reads the cause twice and shows both values as PC.
+fn cause_twice(start: Card) -> Card {
+    let handler = [input(0, At(0xA4)), input(1, At(0xA4)), show(0), show(1)];
+    start.code(0x0B00, &handler).run(9).run(3).pc(0x0B0C).run(1)
+}
+
 /// A run that faults with 10; then the kernel shows the missed page as PC.
 fn miss(start: Card) -> Card {
     start.code(0x0A00, &[input(0, At(0xA6)), show(0)]).run(9).run(2)
@@ -280,9 +286,13 @@ fn faults() -> Vec<Stored> {
     let bytes = [ld(1, Value(0x1401)), st(0, Byte(1))];
     let last = user(&[]).code(0x34FE, &[ld(0, At(0x1300))]).pc(0x12FE);
     let order = user(&[]).code(0x34FE, &[input(0, At(0x18))]).pc(0x12FE).run(2);
-    let cleared = violation(user(&[ld(0, At(0x1381))]));
-    let both = user(&[ld(0, At(0x1381)), ld(0, At(0x1580))]).code(0x0B00, &[input(0, At(0xA4)), show(0)]);
+    let (odd, right) = (|| ld(0, At(0x1381)), || ld(0, At(0x1580)));
+    let cleared = violation(user(&[odd()]));
+    // Behind the first fault the program goes on; nobody has read its cause.
+    let two = user(&[odd(), right()]);
+    let both = two.clone().code(0x0B00, &[input(0, At(0xA4)), show(0)]);
     let both = both.run(9).flag(0).pc(0x1204).run(9).run(2);
+    let added = two.run(9).flag(0).pc(0x1204);
     let pushes = user(&[push(0)]).register(14, 0x1402);
     let requests =
         user(&[add(3, Short(1)), svc(), jump(ALWAYS, At(0x1200))]).code(0x0F00, &[add(4, Register(3)), reti()]);
@@ -302,6 +312,9 @@ fn faults() -> Vec<Stored> {
         case("11: the second word on another page", violation(last)),
         case("11: both causes, one after the other", both),
         case("11: the cause is cleared by IN", cleared.pc(0x0B04).run(1).pc(0x0B0C).run(1)),
+        case("11: the cause read twice, 1 for a missing right, then 0", cause_twice(user(&[right()]))),
+        case("11: the cause read twice, 2 for an odd address, then 0", cause_twice(user(&[odd()]))),
+        case("11: the cause read twice, 3 for both, then 0", cause_twice(added)),
         case("10: a page that is not there", miss(user(&[no(), ld(0, At(0x7E80))]))),
         case("10: a byte on a page that is not there", miss(user(&[ld(1, Value(0x7EFF)), ld(0, Byte(1))]))),
         case("12: a division by 0", user(&[ld(0, Short(7)), div(0, Short(0))]).flag(V | Z).run(9).run(0)),

@@ -4,7 +4,7 @@
 #include <stdio.h>
 #include <string.h>
 
-enum { RUN, CARD, VIEW, CALLS };
+enum { RUN, CARD, VIEW, FAULT, CALLS };
 enum { MEMORY = 1, IMAGE = 2, CARD_BYTES = 4, REPORT = 8, ALL = 16 };
 
 struct buffers {
@@ -25,17 +25,21 @@ static uint64_t call(int which, struct buffers *lent, int empty, int null)
         return tac_run(memory, memory_len, image, image_len, 3, report, report_len);
     if (which == CARD)
         return tac_card(memory, memory_len, image, image_len, card, card_len, report, report_len);
-    return tac_view(memory, memory_len, image, image_len, report, report_len);
+    if (which == VIEW)
+        return tac_view(memory, memory_len, image, image_len, report, report_len);
+    return tac_fault(image, image_len);
 }
 
 /* What the header says of a call with those buffers empty. */
 static uint64_t expected(int which, int empty)
 {
     int runs = which != CARD || (empty & CARD_BYTES) == 0;
-    if (empty & MEMORY)
+    if ((empty & MEMORY) && which != FAULT)
         return (uint64_t)TAC_MEMORY_LENGTH << 32;
     if (empty & IMAGE)
         return (uint64_t)TAC_IMAGE_LENGTH << 32;
+    if (which == FAULT)
+        return (uint64_t)TAC_CAUSE_ODD << 24 | 0x401201;
     if ((empty & REPORT) && runs)
         return (uint64_t)TAC_REPORT_LENGTH << 32;
     return runs ? TAC_REPORT_BYTES : 0;
@@ -44,10 +48,12 @@ static uint64_t expected(int which, int empty)
 static void fill(struct buffers *lent)
 {
     static const uint8_t run[3] = {TAC_COMMAND_RUN, 0, 3};
+    static const uint8_t record[4] = {0x12, 0x01, TAC_CAUSE_ODD, 0x40}; /* violation address, cause, missed page */
     memset(lent, 0, sizeof *lent);
     memset(lent->report, 0x5A, sizeof lent->report);
     memcpy(lent->card, run, sizeof run);
     lent->image[TAC_IMAGE_FLAG + 1] = TAC_FLAG_P;
+    memcpy(lent->image + TAC_IMAGE_VIOLATION, record, sizeof record);
 }
 
 int main(void)

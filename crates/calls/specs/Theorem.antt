@@ -13,9 +13,7 @@ use lib.Seq.{getD-set-other}
 use Rattle.image.specs.Decode.{stateFrom}
 use Rattle.layout.specs.Entries.{entryBytes}
 use Rattle.image.specs.Image.{imageOf}
-use Rattle.layout.specs.Laws.{machine-good}
 use Rattle.layout.specs.Layout.{pcAt, sspAt}
-use Rattle.layout.specs.Valid.{goodImage, machineValid}
 use Rattle.isolation.specs.Isolation.{isolated}
 use Rattle.isolation.specs.Statement as runs
 use Rattle.machine.specs.Answers.{endingEntered, endingNumber}
@@ -26,18 +24,16 @@ use Rattle.machine.specs.declared.Ending.{Ending}
 use Rattle.machine.specs.declared.Ending.the-variants as ending
 use Rattle.machine.specs.declared.State.{State}
 use Rattle.memory.specs.Memory.{wordAt}
-use Rattle.refusal.specs.Laws.{then-good}
-use Rattle.refusal.specs.Refusal.{reportFits}
 use Rattle.refusal.specs.declared.Refusal.{Refusal}
 use Rattle.refusal.specs.declared.Validity.the-variants.{Good, Refused}
 use Rattle.report.specs.Layout.{reportSize}
 use Rattle.report.specs.Report.{reportOf}
-use Rattle.roundtrip.specs.Good.{good-decoded, image-long, rejoined, spelled-out, spelledOut, word-back}
-use Rattle.roundtrip.specs.Ranged.{ranged-decoded}
-use Rattle.roundtrip.specs.Runs.{run-good, run-ranged}
-use Rattle.roundtrip.specs.Statement.{Bytes, GoodState, Ranged}
+use Rattle.roundtrip.specs.Good.{image-long, rejoined, spelled-out, spelledOut, word-back}
+use Rattle.roundtrip.specs.Runs.{run-sound, sound-decoded}
+use Rattle.roundtrip.specs.Statement.{Bytes, GoodState, Ranged, Sound}
 use Rattle.direct.specs.Call.{ranCall, runCall}
 use Rattle.view.specs.Call.{runValid}
+use Rattle.view.specs.Valid.{passed}
 use Rattle.endian.specs.Bytes.{wordBytes, wordFrom}
 use Rattle.calls.specs.Statement.{AtHandler, Enters, Given, IsolatedCalls, PcByte, Shared, Spared, refusedCall}
 
@@ -105,22 +101,17 @@ pushed-by ending.Lost ssp a h = absurd h
 
 -- ---- two calls that pass their tests
 
--- the state that a run left fits its image
-record Sound (r : Ran) : Type 0 where
-  good : GoodState (r .state)
-  ranged : Ranged (r .state)
-
 module _ (b rep : List ℕ) where
   spared-by : (m : List ℕ) (r : Ran) → runs.Spared (stateFrom b) (r .ending) m (r .memory) → Spared b m (ranCall r rep)
   unfolding stateFrom reportOf
   spared-by m r h a w = ⊎-elim (λ e. inl e) (λ p. inr (pushed-by (r .ending) (wordFrom b sspAt) a p)) (h a w)
 
-  handler-by : (r : Ran) → Sound r → runs.atHandler (r .ending) (r .state) (r .memory) → Enters (ranCall r rep) → AtHandler (ranCall r rep)
+  handler-by : (r : Ran) → Sound (r .state) → runs.atHandler (r .ending) (r .state) (r .memory) → Enters (ranCall r rep) → AtHandler (ranCall r rep)
   unfolding reportOf
   handler-by r s h e = at-handler (r .ending) (r .state) (r .memory) (s .good) (s .ranged) h e
 
   shared-by :
-      (m m′ : List ℕ) (r r′ : Ran) → Sound r → Sound r′ → runs.Shared (stateFrom b) m m′ r r′ → Shared m m′ b (ranCall r rep) (ranCall r′ rep)
+      (m m′ : List ℕ) (r r′ : Ran) → Sound (r .state) → Sound (r′ .state) → runs.Shared (stateFrom b) m m′ r r′ → Shared m m′ b (ranCall r rep) (ranCall r′ rep)
   unfolding reportOf
   shared-by m m′ r r′ s s′ h =
       let same : endingNumber (r .ending) ≡ endingNumber (r′ .ending) = ap (λ (l : List ℕ). getD l 0 0) (h .report) in
@@ -147,9 +138,6 @@ module _ (b rep : List ℕ) where
 
 -- ---- the calls
 
-fields-good : (long : ℕ) (b : List ℕ) (report : ℕ) → runValid long b report ≡ Good → goodImage b ≡ true
-fields-good long b report e = machine-good long b (then-good (machineValid long b) (reportFits report reportSize) e .0) .fields
-
 module _ (m m′ b : List ℕ) (n : ℕ) (rep : List ℕ) (long : length m ≡ length m′) where
   abbrev st : State
   st = stateFrom b
@@ -167,11 +155,8 @@ module _ (m m′ b : List ℕ) (n : ℕ) (rep : List ℕ) (long : length m ≡ l
       (shared-by b rep m m′ (runOf n st m) (runOf n st m′) (sound m (g .memoryBytes)) (sound m′ (g .memoryBytes′))
       (isolated n st m m′ (g .user) (g .alike)))
     where
-      good : GoodState st
-      good = good-decoded b (g .imageBytes) (fields-good (length m) b (length rep) e)
-
-      sound : (l : List ℕ) → Bytes l → Sound (runOf n st l)
-      sound l h = record { good = run-good n st l good; ranged = run-ranged n st l good (ranged-decoded b (g .imageBytes)) h .0 }
+      sound : (l : List ℕ) → Bytes l → Sound ((runOf n st l) .state)
+      sound l h = run-sound n st l (sound-decoded b (g .imageBytes) (passed (length m) b (length rep) e .fields)) h .0
 
 pub isolated-calls : IsolatedCalls
 isolated-calls m m′ b n rep long = record { refused = refuses m m′ b n rep long; passed = shares m m′ b n rep long }

@@ -5,7 +5,7 @@ use mathlib.Core.List.{List, [], _++_}
 use Prim.Native.Nat.{ℕ, _*_}
 use lib.Dec.{ltb}
 use lib.ListN.{drop, length}
-use Rattle.refusal.specs.Call.{Call, unlessRefused}
+use Rattle.refusal.specs.Call.{Call, called, unlessRefused}
 use Rattle.image.specs.Decode.{stateFrom}
 use Rattle.image.specs.Image.{imageOf}
 use Rattle.refusal.specs.declared.Validity.{Validity}
@@ -33,7 +33,7 @@ unfoldable pub cardCall : List ℕ → List ℕ → List ℕ → List ℕ → Ca
 cardCall m b card rep =
     let commands : List Command = (readingOf card) .commands in
     let done : Call = executedCall (reportSize * runsIn commands) (executeOf commands (stateFrom b) m) rep in
-    unlessRefused (cardValid (length m) b card (length rep)) m b rep done
+    unlessRefused (cardValid (length m) b card (length rep)) (called m b rep) done
 
 -- the bytes filled, by the answer: none if it is a refusal
 abbrev pub filledBy : ℕ → ℕ

@@ -2,12 +2,12 @@
 -- Assumes nothing.
 use mathlib.Core.List.{List, [], _++_, _∷_}
 use mathlib.Core.Path.{ap, refl, sym, _∙_, _≡_}
-use Prim.Native.Nat.{ℕ, _*_, _+_, _-_, _<_, _≤_}
+use Prim.Native.Nat.{ℕ, _*_, _+_, _<_, _≤_}
 use native.Mathlib.Omega.{arith}
 use lib.ListN.{length, length-append, take}
 use lib.Seq.{length-take-le, take-at}
 use borrow.Author.Tests.{le-ltb, lt-ltb}
-use Rattle.refusal.specs.Call.{unlessRefused}
+use Rattle.refusal.specs.Call.{Call, called, unlessRefused}
 use Rattle.image.specs.Decode.{stateFrom}
 use Rattle.refusal.specs.Laws.{answer-large}
 use Rattle.endian.specs.Bytes.{wordBytes}
@@ -51,11 +51,13 @@ all-reports-long (x ∷ xs) st m =
 in-front : (xs ys : List ℕ) (n : ℕ) → length xs ≡ n → (n ≤ length (xs ++ ys)) × (take n (xs ++ ys) ≡ xs)
 in-front xs ys n e = (omega (arith, length-append xs ys), take-at xs ys n e)
 
+-- a call by what its tests say
+abbrev callBy : Validity → List ℕ → List ℕ → List ℕ → ℕ → Effect → Call
+callBy v m b rep n p = unlessRefused v (called m b rep) (executedCall n p rep)
+
 handed-by :
-    (v : Validity) (m b rep : List ℕ) (n : ℕ) (p : Effect) → n < 4294967296 → length (p .reports) ≡ n
-    → (filledBy ((unlessRefused v m b rep (executedCall n p rep)) .answer) ≤ length ((unlessRefused v m b rep (executedCall n p rep)) .report))
-    × (take (filledBy ((unlessRefused v m b rep (executedCall n p rep)) .answer)) ((unlessRefused v m b rep (executedCall n p rep)) .report)
-    ≡ ifGood v (p .reports))
+    (v : Validity) (m b rep : List ℕ) (n : ℕ) (p : Effect) → n < 4294967296 → length (p .reports) ≡ n → let c : Call = callBy v m b rep n p in
+    (filledBy (c .answer) ≤ length (c .report)) × (take (filledBy (c .answer)) (c .report) ≡ ifGood v (p .reports))
 handed-by (Refused r) m b rep n p h e = rw (le-ltb (answerOf r) 4294967296 (answer-large r)) (omega arith, refl)
 handed-by Good m b rep n p h e = rw (lt-ltb n 4294967296 h) (in-front (p .reports) _ n e)
 

@@ -8,7 +8,7 @@ use borrow.Author.Tests.{eq-eqb, le-leb}
 use lib.ListN.{length}
 use Rattle.layout.specs.Laws.{MachineGood, machine-good}
 use Rattle.layout.specs.Layout.{imageSize}
-use Rattle.layout.specs.Valid.{goodImage, machineValid}
+use Rattle.layout.specs.Valid.{goodImage, imageValid, machineValid, memoryValid}
 use Rattle.refusal.specs.Laws.{report-good, then-good}
 use Rattle.refusal.specs.Refusal.{reportFits}
 use Rattle.refusal.specs.declared.Validity.the-variants.{Good}
@@ -34,7 +34,7 @@ module _ (long : ℕ) (image card : List ℕ) (report : ℕ) where
       record { memory = m .memory; size = m .size; fields = m .fields; read = first .1; room = report-good report _ (all .1) }
 
   pub passes : Passed long image card report → cardValid long image card report ≡ Good
-  unfolding cardValid machineValid reportFits
+  unfolding cardValid memoryValid imageValid reportFits
   passes p =
       rw (
         eq-eqb long 65536 (p .memory),

@@ -27,7 +27,7 @@ fn execute_valid(memory: &mut [u8], image: &mut [u8], card: &[u8], report: &mut 
 
 // A card: the answer of `tac_card`, the reports at the front of `report`, the bytes behind them kept.
 pub fn perform(memory: &mut [u8], image: &mut [u8], card: &[u8], report: &mut [u8]) -> u64
-    ensures { λ r. ⌜ called r (now (memory .exit)) (now (image .exit)) (now (report .exit)) ≡ def.cardCall (now (memory .entry)) (now (image .entry)) (now (card .entry)) (now (report .entry)) ⌝ }
+    ensures { λ r. ⌜ called (now (memory .exit)) (now (image .exit)) (now (report .exit)) r ≡ def.cardCall (now (memory .entry)) (now (image .entry)) (now (card .entry)) (now (report .entry)) ⌝ }
 {
     let checked = validate_card(memory.len(), image, card, report.len());
     let validity = checked.validity;

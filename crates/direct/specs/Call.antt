@@ -6,7 +6,7 @@ use lib.ListN.{drop, length}
 use Rattle.image.specs.Decode.{stateFrom}
 use Rattle.image.specs.Image.{imageOf}
 use Rattle.machine.specs.Run.{Ran, runOf}
-use Rattle.refusal.specs.Call.{Call, unlessRefused}
+use Rattle.refusal.specs.Call.{Call, called, unlessRefused}
 use Rattle.report.specs.Layout.{reportSize}
 use Rattle.report.specs.Report.{reportOfRan}
 use Rattle.view.specs.Call.{runValid}
@@ -20,4 +20,4 @@ ranCall r rep =
 unfoldable pub runCall : List ℕ → List ℕ → ℕ → List ℕ → Call
 runCall m b allowance rep =
     let done : Call = ranCall (runOf allowance (stateFrom b) m) rep in
-    unlessRefused (runValid (length m) b (length rep)) m b rep done
+    unlessRefused (runValid (length m) b (length rep)) (called m b rep) done

@@ -40,7 +40,7 @@ fn run_valid(memory: &mut [u8], image: &mut [u8], allowance: u16, report: &mut [
 
 // A run: the answer of `tac_run`, its report at the front of `report`.
 pub fn run(memory: &mut [u8], image: &mut [u8], allowance: u16, report: &mut [u8]) -> u64
-    ensures { λ r. ⌜ called r (now (memory .exit)) (now (image .exit)) (now (report .exit)) ≡ def.runCall (now (memory .entry)) (now (image .entry)) allowance (now (report .entry)) ⌝ }
+    ensures { λ r. ⌜ called (now (memory .exit)) (now (image .exit)) (now (report .exit)) r ≡ def.runCall (now (memory .entry)) (now (image .entry)) allowance (now (report .entry)) ⌝ }
 {
     match view::validate_run(memory.len(), image, report.len()) {
         Validity::Refused(refusal) => refusal::answer_of(refusal),

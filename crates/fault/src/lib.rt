@@ -21,6 +21,12 @@ pub struct FaultRecord {
     pub missed: u8,
 }
 
+// What a reader of the record gives, and the record that it leaves.
+pub struct Reading {
+    pub given: FaultRecord,
+    pub left: FaultRecord,
+}
+
 // The number that an access enters with that is not granted.
 pub fn fault_number(fault: Fault) -> u8
     ensures { λ r. ⌜ r ≡ faultNumber fault ⌝ }
@@ -56,14 +62,29 @@ impl FaultRecord {
         }
     }
 
-    // The record after its cause was read.
-    pub fn cleared(self) -> FaultRecord
-        ensures { λ r. ⌜ r ≡ def.causeCleared self ⌝ }
+    // The record as it is, and the one that is left, with this cause.
+    fn leaving(self, cause: u8) -> Reading
+        ensures { λ r. ⌜ r ≡ def.leaving cause self ⌝ }
     {
-        FaultRecord {
+        let left = FaultRecord {
             violation: self.violation,
-            cause: 0,
+            cause,
             missed: self.missed,
-        }
+        };
+        Reading { given: self, left }
+    }
+
+    // The reader that does not consume: a look.
+    pub fn look(self) -> Reading
+        ensures { λ r. ⌜ r ≡ def.looked self ⌝ }
+    {
+        self.leaving(self.cause)
+    }
+
+    // The reader that consumes: IN of A4h.
+    pub fn consume(self) -> Reading
+        ensures { λ r. ⌜ r ≡ def.consumed self ⌝ }
+    {
+        self.leaving(0)
     }
 }

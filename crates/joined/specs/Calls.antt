@@ -14,8 +14,9 @@ use Rattle.layout.specs.Valid.{goodImage}
 use Rattle.report.specs.Layout.{reportSize}
 use Rattle.refusal.specs.declared.Validity.the-variants.{Good}
 use Rattle.machine.specs.declared.State.{State}
-use Rattle.roundtrip.specs.Good.{good-decoded, good-encodes, image-long}
-use Rattle.roundtrip.specs.Ranged.{image-bytes, ranged-decoded}
+use Rattle.roundtrip.specs.Good.{good-encodes, image-long}
+use Rattle.roundtrip.specs.Ranged.{image-bytes}
+use Rattle.roundtrip.specs.Runs.{sound-decoded}
 use Rattle.roundtrip.specs.Statement.{Bytes}
 use Rattle.joined.specs.Keeps.{Kept, execute-good}
 use Rattle.joined.specs.Statement.{CardLeaves, Left}
@@ -35,7 +36,7 @@ module _ (m b card rep : List ℕ) (good : cardValid (length m) b card (length r
     pub call-keeps : Kept (length m) ((cardExecuted m b card) .state) ((cardExecuted m b card) .memory)
     call-keeps =
         let fields : goodImage b ≡ true = passed (length m) b card (length rep) good .fields in
-        execute-good card bytes (stateFrom b) m (good-decoded b image fields) (ranged-decoded b image) memory
+        execute-good card bytes (stateFrom b) m (sound-decoded b image fields) memory
 
     leaves : Left m (cardCall m b card rep)
     leaves =

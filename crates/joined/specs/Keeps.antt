@@ -16,18 +16,13 @@ use Rattle.machine.specs.Flag.{withFlag}
 use Rattle.machine.specs.State.{withMmu, withTlb}
 use Rattle.machine.specs.declared.State.{State}
 use Rattle.roundtrip.specs.Each.{each-set}
-use Rattle.roundtrip.specs.Runs.{run-good, run-memory-long, run-ranged}
-use Rattle.roundtrip.specs.Statement.{Bytes, Each, EntryFits, GoodState, Ranged, Word, Zeros}
+use Rattle.roundtrip.specs.Runs.{run-memory-long, run-sound}
+use Rattle.roundtrip.specs.Statement.{Bytes, Each, EntryFits, GoodState, Ranged, Sound, Word, Zeros}
 use Rattle.roundtrip.specs.Statement as range
 use Rattle.word.specs.Cases.{either}
 use Rattle.joined.specs.Operands.{AllFit, Fits, card-fits}
 
--- a good state whose numbers fit
-pub record Sound (st : State) : Type 0 where
-  pub good : GoodState st
-  pub ranged : Ranged st
-
--- such a state beside a memory of bytes of this length
+-- a sound state beside a memory of bytes of this length
 pub record Kept (long : ℕ) (st : State) (m : List ℕ) : Type 0 where
   pub sound : Sound st
   pub bytes : Bytes m
@@ -89,12 +84,8 @@ module _ (long : ℕ) where
   act-keeps (Lines lines v) f st m k =
       record { sound = lines-sound st (k .sound) lines v (f .0) (f .1); bytes = k .bytes; sized = k .sized }
   act-keeps (Run n) f st m k =
-      let r = run-ranged n st m (k .sound .good) (k .sound .ranged) (k .bytes) in
-      record {
-        sound = record { good = run-good n st m (k .sound .good); ranged = r .0 };
-        bytes = r .1;
-        sized = run-memory-long n st m ∙ k .sized;
-      }
+      let r = run-sound n st m (k .sound) (k .bytes) in
+      record { sound = r .0; bytes = r .1; sized = run-memory-long n st m ∙ k .sized }
   act-keeps (Entry e bits) f st m k =
       record { sound = entry-sound st (k .sound) e bits (f .0) (f .1); bytes = k .bytes; sized = k .sized }
   act-keeps (Mmu on) f st m k = record { sound = mmu-sound st (k .sound) on; bytes = k .bytes; sized = k .sized }
@@ -109,8 +100,8 @@ module _ (long : ℕ) where
 
 -- a card's commands, be the card good or not
 pub execute-good :
-    (card : List ℕ) → Bytes card → (st : State) (m : List ℕ) → GoodState st → Ranged st → Bytes m
+    (card : List ℕ) → Bytes card → (st : State) (m : List ℕ) → Sound st → Bytes m
     → Kept (length m) ((executeOf ((readingOf card) .commands) st m) .state) ((executeOf ((readingOf card) .commands) st m) .memory)
-execute-good card small st m g r b =
+execute-good card small st m s b =
     execute-keeps (length m) ((readingOf card) .commands) (card-fits card small) st m
-    (record { sound = record { good = g; ranged = r }; bytes = b; sized = refl })
+    (record { sound = s; bytes = b; sized = refl })

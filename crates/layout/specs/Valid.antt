@@ -5,7 +5,7 @@ use mathlib.Core.List.{List}
 use Prim.Native.Nat.{suc, zero, ℕ, _%_, _+_, _/_}
 use lib.Dec.{eqb, ltb}
 use lib.ListN.{getD, length}
-use Rattle.refusal.specs.Refusal.{refused}
+use Rattle.refusal.specs.Refusal.{andThen, refused}
 use Rattle.refusal.specs.declared.Cause.the-variants.{ImageField, ImageLength, MemoryLength}
 use Rattle.refusal.specs.declared.Validity.{Validity}
 use Rattle.refusal.specs.declared.Validity.the-variants.{Good}
@@ -39,9 +39,14 @@ goodImage b =
     && (ltb (byteFrom b causeAt) 4
     && allZeros b tlbAt 8))))
 
+-- the memory: refusal 1
+unfoldable pub memoryValid : ℕ → Validity
+memoryValid long = cond (eqb long 65536) Good (refused MemoryLength 0)
+
+-- the image: refusals 2 and 3
+unfoldable pub imageValid : List ℕ → Validity
+imageValid image = cond (eqb (length image) imageSize) (cond (goodImage image) Good (refused ImageField 0)) (refused ImageLength 0)
+
 -- memory and image: refusals 1 to 3
-unfoldable pub machineValid : ℕ → List ℕ → Validity
-machineValid long image =
-    cond (eqb long 65536)
-    (cond (eqb (length image) imageSize) (cond (goodImage image) Good (refused ImageField 0)) (refused ImageLength 0))
-    (refused MemoryLength 0)
+abbrev pub machineValid : ℕ → List ℕ → Validity
+machineValid long image = andThen (memoryValid long) (imageValid image)

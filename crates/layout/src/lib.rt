@@ -7,6 +7,7 @@ pub use entries::put_entries;
 pub use entries::tlb_entries_from;
 pub use validity::flag_good;
 pub use validity::pending_good;
+pub use validity::validate_image;
 pub use validity::validate_machine;
 pub use validity::zeros_good;
 

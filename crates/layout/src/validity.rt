@@ -70,13 +70,20 @@ fn refused(cause: Cause) -> Validity
     Validity::Refused(Refusal { cause, place: 0 })
 }
 
-// Refusals 1 to 3.
-pub fn validate_machine(memory: usize, image: &[u8]) -> Validity
-    ensures { λ r. ⌜ r ≡ def.machineValid memory (now (image .entry)) ⌝ }
+// Refusal 1.
+fn validate_memory(memory: usize) -> Validity
+    ensures { λ r. ⌜ r ≡ def.memoryValid memory ⌝ }
 {
     if memory != MEMORY {
         return refused(Cause::MemoryLength);
     }
+    Validity::Good
+}
+
+// Refusals 2 and 3.
+pub fn validate_image(image: &[u8]) -> Validity
+    ensures { λ r. ⌜ r ≡ def.imageValid (now (image .entry)) ⌝ }
+{
     if image.len() != IMAGE {
         return refused(Cause::ImageLength);
     }
@@ -85,4 +92,13 @@ pub fn validate_machine(memory: usize, image: &[u8]) -> Validity
     } else {
         refused(Cause::ImageField)
     }
+}
+
+// Refusals 1 to 3.
+pub fn validate_machine(memory: usize, image: &[u8]) -> Validity
+    ensures { λ r. ⌜ r ≡ def.machineValid memory (now (image .entry)) ⌝ }
+{
+    let first = validate_memory(memory);
+    let second = validate_image(image);
+    refusal::and_then(first, second)
 }

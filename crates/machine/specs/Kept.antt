@@ -119,6 +119,13 @@ step-memory-long st m = commit-long m ((planOf st m) .plan) ((planOf st m) .stat
 
 -- ---- the condition
 
+-- an instruction that goes ahead enters nothing
+pub no-entry : (op : Operation) (number pc flag : ℕ) → eventOf op ≡ event.Entered number pc flag → ⊥
+unfolding eventOf
+no-entry op number pc flag =
+    either (λ (x : Event). x ≡ event.Entered number pc flag → ⊥) (eqb (op .code) HALT)
+    (λ _ h. let z : _≡_ {A = ℕ} 0 1 = cc in omega arith) (λ _ h. let z : _≡_ {A = ℕ} 0 1 = cc in omega arith)
+
 module _ (c : Condition) (m : List ℕ) (number pc flag : ℕ) where
   -- under a name that does not unfold
   record Stays (o : Outcome) : Type 0 where
@@ -129,18 +136,12 @@ module _ (c : Condition) (m : List ℕ) (number pc flag : ℕ) where
       enter-by Stays st pending n saved m
       (record { kept = λ h. let z : _≡_ {A = ℕ} 0 1 = cc in absurd (omega arith) }) (record { kept = λ h. e })
 
-  no-entry : (op : Operation) → eventOf op ≡ event.Entered number pc flag → ⊥
-  unfolding eventOf
-  no-entry op =
-      either (λ (x : Event). x ≡ event.Entered number pc flag → ⊥) (eqb (op .code) HALT)
-      (λ _ h. let z : _≡_ {A = ℕ} 0 1 = cc in omega arith) (λ _ h. let z : _≡_ {A = ℕ} 0 1 = cc in omega arith)
-
   commit-stays : (x : Plan) (st : State) → st .condition ≡ c → Stays (commit x st m)
   unfolding commit
   commit-stays (Interrupt line) st e = enter-stays st _ _ _ e
   commit-stays (Violation why a) st e = enter-stays (noted why a st) _ _ _ e
   commit-stays (Trap n saved) st e = enter-stays st _ _ _ e
-  commit-stays (Perform op) st e = record { kept = λ h. absurd (no-entry op h) }
+  commit-stays (Perform op) st e = record { kept = λ h. absurd (no-entry op number pc flag h) }
 
 -- a step that enters the kernel keeps the condition
 pub entered-condition :

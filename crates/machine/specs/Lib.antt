@@ -4,6 +4,7 @@ pub mod Execute
 pub mod Fault
 pub mod Flag
 pub mod Kept
+pub mod Look
 pub mod Plan
 pub mod PlanLaws
 pub mod Ports

@@ -4,7 +4,8 @@
 use mathlib.Core.Bool.{Bool, true}
 use mathlib.Core.List.{List}
 use mathlib.Core.Path.{_≡_, refl}
-use Prim.Native.Nat.{ℕ}
+use Prim.Native.Nat.{ℕ, _≤_}
+use native.Mathlib.Omega.{arith}
 use lib.Dec.{eqb}
 use Rattle.decode.specs.Decode.{firstOf, instructionOf}
 use Rattle.decode.specs.declared.First.{First}
@@ -12,7 +13,7 @@ use Rattle.decode.specs.declared.First.the-variants.{Defined, Undefined}
 use Rattle.decode.specs.declared.Flow.{Flow}
 use Rattle.decode.specs.declared.Flow.the-variants as flow
 use Rattle.decode.specs.declared.Shape.{Shape}
-use Rattle.plan.specs.End.{endOf, notPermitted, performs, undefinedWord}
+use Rattle.plan.specs.End.{endOf, notPermitted, performs, undefinedWord, zeroDivisor}
 use Rattle.machine.specs.Plan.{after, fetched, interrupted, permitted, planFetch, planFirst, planOf, planOperand, planSecond, planned, throughAccess}
 use Rattle.status.specs.Pending.{lowestLine}
 use Rattle.plan.specs.declared.Plan.{Plan}
@@ -84,15 +85,16 @@ module _ (m : List ℕ) (Kept : State → Type 0) (Claim : Planned → Type 0) (
 
 -- ---- the last tests
 
+-- a trap's number is 12 or above
 pub end-by :
-    (Claim : Plan → Type 0) (x : Ready) → ((pc states : ℕ) → Claim (performs x pc states)) → ((number saved : ℕ) → Claim (Trap number saved))
-    → (f : Flow) (pc : ℕ) (jumps : Bool) → Claim (endOf f x pc jumps)
+    (Claim : Plan → Type 0) (x : Ready) → ((pc states : ℕ) → Claim (performs x pc states))
+    → ((number saved : ℕ) → zeroDivisor ≤ number → Claim (Trap number saved)) → (f : Flow) (pc : ℕ) (jumps : Bool) → Claim (endOf f x pc jumps)
 unfolding endOf
 end-by Claim x go trap flow.Next pc jumps = go _ _
 end-by Claim x go trap flow.Jump pc jumps = either Claim jumps (λ _. go _ _) (λ _. go _ _)
 end-by Claim x go trap flow.Call pc jumps = go _ _
 end-by Claim x go trap flow.Return pc jumps = go _ _
 end-by Claim x go trap flow.Resume pc jumps = go _ _
-end-by Claim x go trap flow.Trap pc jumps = trap _ _
-end-by Claim x go trap flow.Divide pc jumps = either Claim (eqb (x .source) 0) (λ _. trap _ _) (λ _. go _ _)
+end-by Claim x go trap flow.Trap pc jumps = trap _ _ (omega arith)
+end-by Claim x go trap flow.Divide pc jumps = either Claim (eqb (x .source) 0) (λ _. trap _ _ (omega arith)) (λ _. go _ _)
 end-by Claim x go trap flow.Shift pc jumps = go _ _

@@ -7,7 +7,9 @@ use lib.Dec.{eqb, leb}
 use lib.ListN.{getD, set}
 use Rattle.mmu.specs.Entry.{pageIn}
 use Rattle.word.specs.Word.{isSet, lower}
-use Rattle.machine.specs.State.{withCause, withMmu, withOutput, withTlb}
+use Rattle.fault.specs.Fault.{consumed}
+use Rattle.fault.specs.declared.FaultRecord.{FaultRecord}
+use Rattle.machine.specs.State.{withFault, withMmu, withOutput, withTlb}
 use Rattle.machine.specs.declared.State.{State}
 
 -- the input and the output byte
@@ -58,25 +60,26 @@ entryWritten port entry v =
 unfoldable pub tlbPort : List ℕ → ℕ → ℕ
 tlbPort tlb port = cond (isTlbPort port) (entryShown port (getD tlb (entryAt port) 0)) 0
 
--- What IN gives. "A2h: IN gives the violation address"; "A4h: IN gives the cause"; "A6h: IN gives the missed page"; "18h: IN input
--- byte"; "Any other port, odd ones included, reads 0". Bytes have 0 in the upper half.
-unfoldable pub portIn : ℕ → ℕ → ℕ → ℕ → List ℕ → ℕ → ℕ
-portIn input violation cause missed tlb port =
+-- What IN gives. "A2h: IN gives the violation address"; "A4h: IN gives the cause and clears it": it is the reader of the fault record that
+-- consumes; "A6h: IN gives the missed page"; "18h: IN input byte"; "Any other port, odd ones included, reads 0". Bytes have 0 in the upper
+-- half.
+unfoldable pub portIn : ℕ → FaultRecord → List ℕ → ℕ → ℕ
+portIn input fault tlb port =
     cond (eqb port ioPort) input
-    (cond (eqb port mmuPort) violation
-    (cond (eqb port causePort) cause
-    (cond (eqb port missedPort) missed
+    (cond (eqb port mmuPort) (fault .violation)
+    (cond (eqb port causePort) ((consumed fault) .given .cause)
+    (cond (eqb port missedPort) (fault .missed)
     (tlbPort tlb port))))
 
 abbrev pub portValue : State → ℕ → ℕ
-portValue st port = portIn (st .ports .input) (st .fault .violation) (st .fault .cause) (st .fault .missed) (st .tlb) port
+portValue st port = portIn (st .ports .input) (st .fault) (st .tlb) port
 
--- the cause after IN: "A4h: IN gives the cause and clears it"
-unfoldable pub causeAfter : ℕ → ℕ → ℕ
-causeAfter cause port = cond (eqb port causePort) 0 cause
+-- the fault record after IN
+unfoldable pub recordAfterIn : FaultRecord → ℕ → FaultRecord
+recordAfterIn fault port = cond (eqb port causePort) ((consumed fault) .left) fault
 
 abbrev pub afterIn : State → ℕ → State
-afterIn st port = withCause st (causeAfter (st .fault .cause) port)
+afterIn st port = withFault st (recordAfterIn (st .fault) port)
 
 -- After OUT. "18h: ... OUT lower half to output byte"; A2h: "bit 0 of OUT switches the MMU"; the TLB's ports. "OUT to A4h and A6h is
 -- dropped"; "Any other port ... drops writes".

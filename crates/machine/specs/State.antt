@@ -58,13 +58,3 @@ withArithmetic st v c s z = withFlags st (flagsWith (st .flags) v c s z)
 
 abbrev pub withOutput : State → ℕ → State
 withOutput st byte = withPorts st (record { input = st .ports .input; output = byte })
-
--- violation address and cause
-abbrev pub withViolation : State → ℕ → ℕ → State
-withViolation st a bits = withFault st (record { violation = a; cause = bits; missed = st .fault .missed })
-
-abbrev pub withCause : State → ℕ → State
-withCause st bits = withViolation st (st .fault .violation) bits
-
-abbrev pub withMissed : State → ℕ → State
-withMissed st page = withFault st (record { violation = st .fault .violation; cause = st .fault .cause; missed = page })

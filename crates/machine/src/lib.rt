@@ -47,6 +47,12 @@ pub struct State {
     pub tlb: [u32; 8],
 }
 
+// What a look at the fault record gives, and the state after it.
+pub struct Looked {
+    pub given: FaultRecord,
+    pub state: State,
+}
+
 // A plan, and the state with the marks of its accesses.
 pub struct Planned {
     pub plan: Plan,

@@ -69,7 +69,10 @@ impl State {
         match port {
             IO => self.ports.input as u16,
             MMU => self.fault.violation,
-            CAUSE => self.fault.cause as u16,
+            CAUSE => {
+                let reading = self.fault.consume();
+                reading.given.cause as u16
+            }
             MISSED => self.fault.missed as u16,
             FIRST_TLB..=LAST_TLB => {
                 let tlb = self.tlb;
@@ -85,8 +88,9 @@ impl State {
     {
         if port == CAUSE {
             let old = self.fault;
-            let fault = old.cleared();
-            self.fault = fault;
+            let reading = old.consume();
+            let left = reading.left;
+            self.fault = left;
             return self;
         }
         self

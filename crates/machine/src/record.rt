@@ -1,6 +1,8 @@
 // The record of a fault in the state.
 ghost use mathlib.Core.Path.{_≡_};
 ghost use Rattle.machine.specs.Fault as def;
+ghost use Rattle.machine.specs.Look.{lookOf};
+use crate::Looked;
 use crate::State;
 use mmu::Fault;
 
@@ -13,5 +15,17 @@ impl State {
         let record = old.noted(fault, a);
         self.fault = record;
         self
+    }
+
+    // The record, and the state as it is.
+    pub fn look(mut self) -> Looked
+        ensures { λ r. ⌜ r ≡ lookOf self ⌝ }
+    {
+        let old = self.fault;
+        let reading = old.look();
+        let given = reading.given;
+        let left = reading.left;
+        self.fault = left;
+        Looked { given, state: self }
     }
 }

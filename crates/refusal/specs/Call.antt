@@ -14,15 +14,23 @@ pub record Call : Type 0 where
   pub image : List ℕ
   pub report : List ℕ
 
-abbrev pub called : ℕ → List ℕ → List ℕ → List ℕ → Call
-called answer m b rep = record { answer = answer; memory = m; image = b; report = rep }
+abbrev pub called : List ℕ → List ℕ → List ℕ → ℕ → Call
+called m b rep answer = record { answer = answer; memory = m; image = b; report = rep }
 
--- refused: the buffers are left as they were; else as the last argument says
-abbrev pub unlessRefused : Validity → List ℕ → List ℕ → List ℕ → Call → Call
-unlessRefused (Refused r) m b rep done = called (answerOf r) m b rep
-unlessRefused Good m b rep done = done
+-- the same of a call that is lent an image alone
+pub record ImageCall : Type 0 where
+  pub answer : ℕ
+  pub image : List ℕ
+
+abbrev pub imageCalled : List ℕ → ℕ → ImageCall
+imageCalled b answer = record { answer = answer; image = b }
+
+-- refused: the answer, with the buffers as they were, which the second argument has; else as the last argument says
+abbrev pub unlessRefused : {A : Type 0} → Validity → (ℕ → A) → A → A
+unlessRefused (Refused r) before done = before (answerOf r)
+unlessRefused Good before done = done
 
 -- a call is its answer and its buffers
 pub called-is :
-    {answer : ℕ} {m b rep : List ℕ} (x : Call) → answer ≡ x .answer → m ≡ x .memory → b ≡ x .image → rep ≡ x .report → called answer m b rep ≡ x
-called-is x a m b r = λ i. called (a i) (m i) (b i) (r i)
+    {answer : ℕ} {m b rep : List ℕ} (x : Call) → answer ≡ x .answer → m ≡ x .memory → b ≡ x .image → rep ≡ x .report → called m b rep answer ≡ x
+called-is x a m b r = λ i. called (m i) (b i) (r i) (a i)

@@ -6,6 +6,7 @@ use Prim.Native.Nat.{ℕ}
 use native.Mathlib.Omega.{arith}
 use lib.Dec.{eqb, ltb}
 use lib.ListN.{getD, set}
+use Rattle.fault.specs.declared.FaultRecord.{FaultRecord}
 use Rattle.decode.specs.Code.{HALT}
 use Rattle.machine.specs.Enter.{Outcome, enterOf, vectorOf}
 use Rattle.status.specs.Flag.{wordOf}
@@ -17,7 +18,7 @@ use Rattle.machine.specs.Fault.{noted}
 use Rattle.machine.specs.Flag.{flagOf}
 use Rattle.machine.specs.Kept.{plan-keeps}
 use Rattle.machine.specs.Plan.{planOf}
-use Rattle.machine.specs.Ports.{entryAt, entryShown, entryWritten, ioPort, isPagePort, isTlbPort, outputAfter, portIn, portValue, tlbAfter, tlbPort}
+use Rattle.machine.specs.Ports.{causePort, entryAt, entryShown, entryWritten, ioPort, isPagePort, isTlbPort, outputAfter, portIn, portValue, recordAfterIn, tlbAfter, tlbPort}
 use Rattle.machine.specs.Register.{regsAfter, sspAfter, sspWith, uspAfter, uspWith}
 use Rattle.machine.specs.State.{withPc}
 use Rattle.machine.specs.Step.{commit, stepOf}
@@ -71,6 +72,14 @@ output-after : (output port v : ℕ) → Byte output → Byte (outputAfter outpu
 unfolding outputAfter
 output-after output port v h = either Byte (eqb port ioPort) (λ _. omega arith) (λ _. h)
 
+-- IN keeps the violation address and the missed page
+record-fits :
+    (fault : FaultRecord) (port : ℕ) → Word (fault .violation) → Byte (fault .missed)
+    → Word ((recordAfterIn fault port) .violation) × Byte ((recordAfterIn fault port) .missed)
+unfolding recordAfterIn
+record-fits fault port v p =
+    either (λ (r : FaultRecord). Word (r .violation) × Byte (r .missed)) (eqb port causePort) (λ _. (v, p)) (λ _. (v, p))
+
 written-fits : (port e v : ℕ) → EntryFits e → Word v → EntryFits (entryWritten port e v)
 written-fits port e v f h = either EntryFits (isPagePort port) (λ _. omega arith) (λ _. omega arith)
 
@@ -118,9 +127,12 @@ alu-fits code a b h k =
 
 body-ranged : (st : State) (op : Operation) → GoodState st → Ranged st → OperationFits op → Ranged (bodyOf st op)
 body-ranged st op g r f =
+    let fault = record-fits (st .fault) (op .port) (r .refused) (r .page) in
     body-by Ranged st op
     (search (
       r,
+      fault .0,
+      fault .1,
       r .words,
       r .entries,
       f,

@@ -57,6 +57,11 @@ pub record Ranged (st : State) : Type 0 where
   pub page : Byte (st .fault .missed)
   pub entries : Each EntryFits (st .tlb)
 
+-- A good and ranged state.
+pub record Sound (st : State) : Type 0 where
+  pub good : GoodState st
+  pub ranged : Ranged st
+
 -- what a step tells of an entry of the kernel: the number, PC and FLAG
 abbrev pub EventFits : Event → Type 0
 EventFits (event.Executed cost) = Unit {0}
@@ -86,6 +91,10 @@ RunGood = (n : ℕ) (st : State) (m : List ℕ) → GoodState st → GoodState (
 abbrev pub RunRanged : Type 0
 RunRanged =
     (n : ℕ) (st : State) (m : List ℕ) → GoodState st → Ranged st → Bytes m → Ranged ((runOf n st m) .state) × Bytes ((runOf n st m) .memory)
+
+-- `run-sound`: so from a sound state to a sound one
+abbrev pub RunSound : Type 0
+RunSound = (n : ℕ) (st : State) (m : List ℕ) → Sound st → Bytes m → Sound ((runOf n st m) .state) × Bytes ((runOf n st m) .memory)
 
 -- `run-image`: from the state of a good image it leads to a state whose image is good
 abbrev pub RunImage : Type 0

@@ -7,12 +7,13 @@ use native.Mathlib.Omega.{arith}
 use lib.Bits.{or-lt}
 use lib.Dec.{eqb, ltb}
 use lib.ListN.{getD, length, length-set}
+use Rattle.fault.specs.declared.FaultRecord.{FaultRecord}
 use Rattle.machine.specs.Enter.{Outcome, enterOf}
 use Rattle.machine.specs.Execute.{afterOperation, bodyOf}
 use Rattle.machine.specs.Fault.{noted}
 use Rattle.machine.specs.Kept.{plan-keeps, withMark}
 use Rattle.machine.specs.Plan.{planOf}
-use Rattle.machine.specs.Ports.{causeAfter, causePort, entryAt, entryWritten, isPagePort, isTlbPort, tlbAfter}
+use Rattle.machine.specs.Ports.{causePort, entryAt, entryWritten, isPagePort, isTlbPort, recordAfterIn, tlbAfter}
 use Rattle.machine.specs.Register.{regsAfter}
 use Rattle.machine.specs.State.{withPc}
 use Rattle.machine.specs.Step.{commit, stepOf}
@@ -50,9 +51,9 @@ regs-long : (regs : List ℕ) (n v : ℕ) → length regs ≡ 13 → length (reg
 unfolding regsAfter
 regs-long regs n v h = either (λ (l : List ℕ). length l ≡ 13) (ltb n 13) (λ _. length-set regs n v ∙ h) (λ _. h)
 
-cause-small : (cause port : ℕ) → cause < 4 → causeAfter cause port < 4
-unfolding causeAfter
-cause-small cause port h = either (λ (c : ℕ). c < 4) (eqb port causePort) (λ _. omega arith) (λ _. h)
+cause-small : (fault : FaultRecord) (port : ℕ) → fault .cause < 4 → (recordAfterIn fault port) .cause < 4
+unfolding recordAfterIn
+cause-small fault port h = either (λ (r : FaultRecord). r .cause < 4) (eqb port causePort) (λ _. omega arith) (λ _. h)
 
 -- "bits 14, 13 stored as 0"
 written-zeros : (port e v : ℕ) → Zeros e → Zeros (entryWritten port e v)

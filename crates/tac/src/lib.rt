@@ -1,9 +1,10 @@
-// The interface for C: runs, cards and views on buffers that the caller lends.
+// The interface for C: runs, cards, views and looks on buffers that the caller lends.
 ghost use mathlib.Core.Path.{_≡_};
 ghost use Rattle.card.specs.Call.{cardCall};
 ghost use Rattle.direct.specs.Call.{runCall};
+ghost use Rattle.look.specs.Call.{faultCall};
 ghost use Rattle.view.specs.Call.{viewCall};
-ghost use Rattle.refusal.specs.Call.{called};
+ghost use Rattle.refusal.specs.Call.{called, imageCalled};
 
 #[no_mangle]
 pub extern "C" fn tac_run(
@@ -12,7 +13,7 @@ pub extern "C" fn tac_run(
     allowance: u16,
     report: &mut [u8],
 ) -> u64
-    ensures { λ r. ⌜ called r (now (memory .exit)) (now (image .exit)) (now (report .exit)) ≡ runCall (now (memory .entry)) (now (image .entry)) allowance (now (report .entry)) ⌝ }
+    ensures { λ r. ⌜ called (now (memory .exit)) (now (image .exit)) (now (report .exit)) r ≡ runCall (now (memory .entry)) (now (image .entry)) allowance (now (report .entry)) ⌝ }
 {
     direct::run(memory, image, allowance, report)
 }
@@ -24,14 +25,21 @@ pub extern "C" fn tac_card(
     card: &[u8],
     report: &mut [u8],
 ) -> u64
-    ensures { λ r. ⌜ called r (now (memory .exit)) (now (image .exit)) (now (report .exit)) ≡ cardCall (now (memory .entry)) (now (image .entry)) (now (card .entry)) (now (report .entry)) ⌝ }
+    ensures { λ r. ⌜ called (now (memory .exit)) (now (image .exit)) (now (report .exit)) r ≡ cardCall (now (memory .entry)) (now (image .entry)) (now (card .entry)) (now (report .entry)) ⌝ }
 {
     card::perform(memory, image, card, report)
 }
 
 #[no_mangle]
 pub extern "C" fn tac_view(memory: &[u8], image: &[u8], report: &mut [u8]) -> u64
-    ensures { λ r. ⌜ called r (now (memory .exit)) (now (image .exit)) (now (report .exit)) ≡ viewCall (now (memory .entry)) (now (image .entry)) (now (report .entry)) ⌝ }
+    ensures { λ r. ⌜ called (now (memory .exit)) (now (image .exit)) (now (report .exit)) r ≡ viewCall (now (memory .entry)) (now (image .entry)) (now (report .entry)) ⌝ }
 {
     view::view(memory, image, report)
+}
+
+#[no_mangle]
+pub extern "C" fn tac_fault(image: &[u8]) -> u64
+    ensures { λ r. ⌜ imageCalled (now (image .exit)) r ≡ faultCall (now (image .entry)) ⌝ }
+{
+    look::look(image)
 }

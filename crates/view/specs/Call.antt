@@ -7,7 +7,7 @@ use lib.ListN.{drop, length}
 use Rattle.image.specs.Decode.{stateFrom}
 use Rattle.layout.specs.Valid.{machineValid}
 use Rattle.machine.specs.Run.{runOf}
-use Rattle.refusal.specs.Call.{Call, unlessRefused}
+use Rattle.refusal.specs.Call.{Call, called, unlessRefused}
 use Rattle.refusal.specs.Refusal.{andThen, reportFits}
 use Rattle.refusal.specs.declared.Validity.{Validity}
 use Rattle.report.specs.Layout.{reportSize}
@@ -25,4 +25,4 @@ viewedCall m b rep =
 unfoldable pub viewCall : List ℕ → List ℕ → List ℕ → Call
 viewCall m b rep =
     let done : Call = viewedCall m b rep in
-    unlessRefused (runValid (length m) b (length rep)) m b rep done
+    unlessRefused (runValid (length m) b (length rep)) (called m b rep) done

@@ -56,7 +56,7 @@ fn view_valid(image: &[u8], report: &mut [u8])
 
 // A view: the answer of `tac_view`.
 pub fn view(memory: &[u8], image: &[u8], report: &mut [u8]) -> u64
-    ensures { λ r. ⌜ called r (now (memory .exit)) (now (image .exit)) (now (report .exit)) ≡ def.viewCall (now (memory .entry)) (now (image .entry)) (now (report .entry)) ⌝ }
+    ensures { λ r. ⌜ called (now (memory .exit)) (now (image .exit)) (now (report .exit)) r ≡ def.viewCall (now (memory .entry)) (now (image .entry)) (now (report .entry)) ⌝ }
 {
     match validate_run(memory.len(), image, report.len()) {
         Validity::Refused(refusal) => refusal::answer_of(refusal),

@@ -18,7 +18,7 @@ use Rattle.transfer.specs.Need.{addressOf, loadNeed, needOf, valueStored}
 use Rattle.machine.specs.Plan.{planFetch, planFirst, planOf, planOperand, planSecond}
 use Rattle.status.specs.Pending.{interruptIn}
 use Rattle.plan.specs.End.{endOf}
-use Rattle.machine.specs.Ports.{causeAfter, mmuAfter, outputAfter, portIn, tlbAfter, tlbPort}
+use Rattle.machine.specs.Ports.{mmuAfter, outputAfter, portIn, recordAfterIn, tlbAfter, tlbPort}
 use Rattle.machine.specs.Register.{regIn, regsAfter, spIn, sspAfter, sspWith, uspAfter, uspWith}
 use Rattle.machine.specs.Step.{commit, stepOf}
 use Rattle.transfer.specs.Transfer.{transferOf}
@@ -42,7 +42,7 @@ unfolding starred misreadings results pages entries memoryOf stateOf conditionFr
     fieldsBad firstOf hasSecond operandOf usesRx addStates costOf divStates eight inModes inRows modeBits opcodeOf row rows shiftStates single statesAt
     enterOf pushed afterOperation aluOf bodyOf eventOf flagWord stored accessOf alignedAccess byEntry byTlb lookupFrom lookupOf transferOf
     addressOf loadNeed needOf valueStored endOf interruptIn planFetch planFirst planOf planOperand planSecond trailingZeros
-    causeAfter mmuAfter outputAfter portIn tlbAfter tlbPort regIn regsAfter spIn sspAfter sspWith uspAfter uspWith commit stepOf
+    mmuAfter outputAfter portIn recordAfterIn tlbAfter tlbPort regIn regsAfter spIn sspAfter sspWith uspAfter uspWith commit stepOf
 examples = refl
 
 -- ---- states of events

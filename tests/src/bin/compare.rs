@@ -1,6 +1,6 @@
 //! Sets libtac.a beside the emulator of this package, byte for byte.
 //!
-//! compare [--factor N] [--seed N] [--part words|runs|cards|pairs|scenarios] [--scenario NAME] [--verbose 1]
+//! compare [--factor N] [--seed N] [--part words|runs|cards|looks|pairs|scenarios] [--scenario NAME] [--verbose 1]
 //! compare --replay FILE
 //!
 //! The parts run side by side. With `--verbose 1` each case is named before it is tried, for a crash. `--replay` does the case again that a text
@@ -12,31 +12,34 @@ use std::thread;
 use std::time::Instant;
 use tac_tests::case::{self, difference, perform, Call, Case, Emulator, Outcome, OWN};
 use tac_tests::emulator::{Machine, FLAG_BITS, I, P};
+use tac_tests::ffi::{self, LIBRARY};
 use tac_tests::generate::Maker;
 use tac_tests::isolation::{self, After, Pair};
+use tac_tests::looks::{self, Looks, Seen};
 use tac_tests::program::Ground;
 use tac_tests::replay::{parse, Replay};
-use tac_tests::report::REPORT;
+use tac_tests::report::{ENDING, NUMBER, REPORT};
 use tac_tests::rng::Rng;
 use tac_tests::scenarios::SCENARIOS;
-use tac_tests::{ffi, image, sample};
+use tac_tests::{image, sample};
 
 /// Held by the part that prints a difference and then ends the program.
 static FOUND: Mutex<()> = Mutex::new(());
 
-const LIBRARY: Emulator = Emulator { run: ffi::run, card: ffi::card, view: ffi::view };
+const BOTH: [Emulator; 2] = [OWN, LIBRARY];
 
 const ROUNDS: u64 = 2;
 const RUNS: u64 = 300_000;
 const CARDS: u64 = 150_000;
+const LOOKS: u64 = 15_000;
 const PAIRS: u64 = 60_000;
 /// Cases of each scenario.
 const EACH: u64 = 8_000;
 
 /// A part's name, and what does it and gives its text.
 type Part = (&'static str, fn(&Arguments) -> String);
-const PARTS: [Part; 5] =
-    [("words", words), ("runs", runs), ("cards", cards), ("pairs", pairs), ("scenarios", scenarios)];
+const PARTS: [Part; 6] =
+    [("words", words), ("runs", runs), ("cards", cards), ("looks", looks), ("pairs", pairs), ("scenarios", scenarios)];
 
 struct Arguments {
     factor: u64,
@@ -47,7 +50,8 @@ struct Arguments {
     replay: Option<String>,
 }
 
-const USAGE: &str = "usage: compare [--factor N] [--seed N] [--part words|runs|cards|pairs|scenarios] [--verbose 1]
+const USAGE: &str =
+    "usage: compare [--factor N] [--seed N] [--part words|runs|cards|looks|pairs|scenarios] [--verbose 1]
        compare [--factor N] [--seed N] --scenario NAME
        compare --replay FILE";
 
@@ -75,6 +79,20 @@ fn arguments() -> Arguments {
     result
 }
 
+/// Prints what was found, with the smallest case, and ends the program.
+fn stop(what: &str, smallest: impl FnOnce() -> String) -> ! {
+    let _only = FOUND.lock();
+    println!("{what}");
+    print!("smallest case found, for --replay:\n{}", smallest());
+    exit(1);
+}
+
+/// The counts that are not 0, each with its number.
+fn list(counts: &[u64]) -> String {
+    let named = counts.iter().enumerate().filter(|(_, n)| **n != 0);
+    named.map(|(k, n)| format!("{k}:{n}")).collect::<Vec<_>>().join(" ")
+}
+
 /// How the runs of a part ended.
 #[derive(Default)]
 struct Count {
@@ -86,6 +104,8 @@ struct Count {
     long: u64,
     /// Runs whose first step was a fault.
     at_once: u64,
+    /// Looks by the cause that they gave.
+    looks: [u64; 4],
 }
 
 impl Count {
@@ -101,11 +121,20 @@ impl Count {
         self.long += (steps >= 100) as u64;
     }
 
-    fn outcome(&mut self, outcome: &Outcome) {
+    /// The number that a look gave.
+    fn look(&mut self, number: u64) {
+        self.looks[(number >> 24) as usize] += 1;
+    }
+
+    fn outcome(&mut self, call: &Call, outcome: &Outcome) {
         self.cases += 1;
         let refusal = (outcome.answer >> 32) as usize;
         if refusal != 0 {
             self.refused[refusal] += 1;
+            return;
+        }
+        if *call == Call::Fault {
+            self.look(outcome.answer);
             return;
         }
         for report in outcome.report[..outcome.answer as usize].chunks(REPORT) {
@@ -123,13 +152,13 @@ impl Count {
         text += &format!(
             "  steps {steps}: {average:.1} a run, {long} runs of 100 or more, {at_once} with a fault at the first\n"
         );
-        let list = |numbers: &[u64]| {
-            let named = numbers.iter().enumerate().filter(|(_, n)| **n != 0);
-            named.map(|(k, n)| format!("{k}:{n}")).collect::<Vec<_>>().join(" ")
-        };
-        text += &format!("  entered by number: {}\n", list(&self.entered));
-        if self.refused.iter().any(|n| *n != 0) {
-            text += &format!("  refused by number: {}\n", list(&self.refused));
+        let lists = [
+            ("entered by number", &self.entered[..]),
+            ("refused by number", &self.refused),
+            ("looks by cause", &self.looks),
+        ];
+        for (what, counts) in lists.iter().filter(|(_, counts)| counts.iter().any(|n| *n != 0)) {
+            text += &format!("  {what}: {}\n", list(counts));
         }
         text
     }
@@ -156,14 +185,13 @@ impl Bench {
         perform(&OWN, case, &mut self.own);
         perform(&LIBRARY, case, &mut self.library);
         if self.own != self.library {
-            let _only = FOUND.lock();
-            println!("MISMATCH in {}", place());
-            println!("as found: {}", difference(&self.own, &self.library).unwrap_or_default());
-            let small = case::shrink(case, &|c| case::differ(&OWN, &LIBRARY, c));
-            print!("smallest case found, for --replay:\n{}", case::describe(&small, &OWN, &LIBRARY));
-            exit(1);
+            let found = difference(&self.own, &self.library).unwrap_or_default();
+            stop(&format!("MISMATCH in {}\nas found: {found}", place()), || {
+                let small = case::shrink(case, &|c| case::differ(&OWN, &LIBRARY, c));
+                case::describe(&small, &OWN, &LIBRARY)
+            });
         }
-        count.outcome(&self.own);
+        count.outcome(&case.call, &self.own);
     }
 }
 
@@ -280,6 +308,35 @@ fn scenarios(args: &Arguments) -> String {
     count.text("scenarios", start)
 }
 
+/// Looks between runs, and before and behind the kernel's IN.
+fn looks(args: &Arguments) -> String {
+    let (start, mut count) = (Instant::now(), Count::default());
+    let (mut maker, mut looks) = (Maker::new(), Looks::empty());
+    let mut after = [[0; 4]; 16];
+    for index in 0..LOOKS * args.factor {
+        maker.looks(&mut Rng::of_case(args.seed, 45, index), &mut looks);
+        if args.verbose {
+            eprintln!("looks, case {index}");
+        }
+        assert!(looks::asked(&looks));
+        match looks::check(BOTH, &looks) {
+            Ok(Seen { report, look }) => {
+                count.cases += 1;
+                count.run(&report);
+                count.look(look);
+                if report[ENDING] == 1 {
+                    after[report[NUMBER] as usize][(look >> 24) as usize] += 1;
+                }
+            }
+            Err(what) => stop(&format!("MISMATCH in looks, case {index}\nas found: {what}"), || {
+                looks::describe(BOTH, &looks::shrink(BOTH, &looks))
+            }),
+        }
+    }
+    let found = [10, 11].map(|number| format!("  looks by cause after entry {number}: {}\n", list(&after[number])));
+    count.text("looks", start) + &found.concat()
+}
+
 /// Demand 3, on the library alone.
 fn pairs(args: &Arguments) -> String {
     let start = Instant::now();
@@ -302,13 +359,9 @@ fn pairs(args: &Arguments) -> String {
                 overwrote += seen.overwrote as u64;
                 stored += seen.stored as u64;
             }
-            Err(what) => {
-                let _only = FOUND.lock();
-                println!("DEMAND 3 FAILS in pairs, case {index}: {what}");
-                let small = isolation::shrink(ffi::run, &pair);
-                print!("smallest pair found, for --replay:\n{}", isolation::describe(ffi::run, &small));
-                exit(1);
-            }
+            Err(what) => stop(&format!("DEMAND 3 FAILS in pairs, case {index}: {what}"), || {
+                isolation::describe(ffi::run, &isolation::shrink(ffi::run, &pair))
+            }),
         }
     }
     let found = format!(
@@ -325,6 +378,11 @@ fn replay(name: &str) -> Result<bool, String> {
             print!("{}", case::describe(&case, &OWN, &LIBRARY));
             Ok(!case::differ(&OWN, &LIBRARY, &case))
         }
+        Replay::Looks(looks) if looks::asked(&looks) => {
+            print!("{}", looks::describe(BOTH, &looks));
+            Ok(looks::check(BOTH, &looks).is_ok())
+        }
+        Replay::Looks(_) => Err("looks stand between runs on good buffers".to_string()),
         Replay::Pair(pair) if isolation::asked(&pair) => {
             print!("{}", isolation::describe(ffi::run, &pair));
             Ok(isolation::check(ffi::run, &pair, &mut After::empty(), &mut After::empty()).is_ok())

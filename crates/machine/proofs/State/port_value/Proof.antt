@@ -9,6 +9,9 @@ use Rattle.machine.proofs.State.port_value.Tie as tie
 cast-result : tie.Need-cast-result
 cast-result c = search needs
 
+consume-requires : tie.Need-consume-requires
+consume-requires c κs = search needs
+
 cast-result-2 : tie.Need-cast-result-2
 cast-result-2 c = search needs
 
@@ -28,7 +31,7 @@ returns-2 c = rw (c .match .keys2)
 
 returns-3 : tie.Need-returns-3
 unfolding portIn
-returns-3 c = rw (c .before .match .keys3)
+returns-3 c = rw (c .before .before .match .keys3, c .before .consume .ensures)
 
 returns-4 : tie.Need-returns-4
 unfolding portIn
@@ -50,6 +53,7 @@ port-value-spec =
     tie.close
     (tie.spec
     cast-result
+    consume-requires
     cast-result-2
     cast-result-3
     read-entry-requires

@@ -1,0 +1,3 @@
+pub mod Statement
+pub mod Theorem
+pub mod Worked

@@ -1,0 +1,102 @@
+-- The look at the fault record on calls, by the bytes that they are lent: `faultCall` (look/Call), the contract of `tac_fault`, beside `runCall`
+-- (direct/Call). Document 02, 1/14: "a look between two steps changes nothing a later step gives."
+-- Assumes nothing.
+use mathlib.Core.List.{List, _++_}
+use mathlib.Core.Path.{_≡_}
+use Prim.Native.Nat.{ℕ, _%_, _+_, _/_, _<_, _≤_}
+use lib.ListN.{drop, length}
+use Rattle.calls.specs.Statement as isolated
+use Rattle.direct.specs.Call.{runCall}
+use Rattle.endian.specs.Bytes.{byteFrom, wordFrom}
+use Rattle.fault.specs.declared.FaultRecord.{FaultRecord}
+use Rattle.image.specs.Decode.{stateFrom}
+use Rattle.layout.specs.Layout.{causeAt, missedAt, violationAt}
+use Rattle.layout.specs.Valid.{imageValid}
+use Rattle.look.specs.Call.{faultCall, faultWord}
+use Rattle.machine.specs.Answers.{endingNumber}
+use Rattle.machine.specs.Look.{lookOf}
+use Rattle.machine.specs.Run.{Ran, runOf}
+use Rattle.machine.specs.Through.{later}
+use Rattle.machine.specs.declared.Ending.the-variants as ending
+use Rattle.readers.specs.Statement.{LastShows, lookedBetween}
+use Rattle.refusal.specs.Call.{Call}
+use Rattle.refusal.specs.declared.Validity.the-variants.{Good}
+use Rattle.report.specs.Layout.{endingAt, numberAt, reportSize}
+use Rattle.report.specs.Report.{reportOfRan}
+use Rattle.roundtrip.specs.Statement.{Bytes}
+use Rattle.view.specs.Call.{runValid}
+
+-- ---- one look
+
+-- `look-keeps`: a look leaves every byte of an image, of whatever length and content, so every call behind it is lent what it would be without
+abbrev pub LookKeeps : Type 0
+LookKeeps = (b : List ℕ) → (faultCall b) .image ≡ b
+
+-- `look-parts`: the answer of a look that is not refused is below 2^32, where no refusal's is, and its parts are the bytes of the image
+pub record Parts (b : List ℕ) (answer : ℕ) : Type 0 where
+  pub small : answer < 4294967296
+  pub cause : answer / 16777216 ≡ byteFrom b causeAt
+  pub missed : answer / 65536 % 256 ≡ byteFrom b missedAt
+  pub violation : answer % 65536 ≡ wordFrom b violationAt
+
+abbrev pub LookParts : Type 0
+LookParts = (b : List ℕ) → Bytes b → imageValid b ≡ Good → Parts b ((faultCall b) .answer)
+
+-- a call of a run that passes its tests, on bytes
+pub record Given (m b rep : List ℕ) : Type 0 where
+  pub memoryBytes : Bytes m
+  pub imageBytes : Bytes b
+  pub passed : runValid (length m) b (length rep) ≡ Good
+
+-- `look-after`: a look at the image that a run left is one at the state that it left
+abbrev pub LookAfter : Type 0
+LookAfter =
+    (m b : List ℕ) (n : ℕ) (rep : List ℕ) → Given m b rep
+    → (faultCall ((runCall m b n rep) .image)) .answer ≡ faultWord ((lookOf ((runOf n (stateFrom b) m) .state)) .given)
+
+-- a run of n, and a run of k on the memory and the image that it left
+abbrev pub callsApart : List ℕ → List ℕ → ℕ → ℕ → List ℕ → List ℕ → Call
+callsApart m b n k rep rep′ = let c : Call = runCall m b n rep in runCall (c .memory) (c .image) k rep′
+
+-- the same with a look between them: the second run is lent the image that the look left
+abbrev pub lookedCalls : List ℕ → List ℕ → ℕ → ℕ → List ℕ → List ℕ → Call
+lookedCalls m b n k rep rep′ = let c : Call = runCall m b n rep in runCall (c .memory) ((faultCall (c .image)) .image) k rep′
+
+-- `calls-between`: the look changes nothing that the second call answers and leaves, whatever the buffers are
+abbrev pub CallsBetween : Type 0
+CallsBetween = (m b : List ℕ) (n k : ℕ) (rep rep′ : List ℕ) → lookedCalls m b n k rep rep′ ≡ callsApart m b n k rep rep′
+
+-- `whole` is the call of one run of all the steps, and `last` that of the second run, whose end is r
+pub record AsOne (whole last : Call) (n before : ℕ) (r : Ran) (rep rep′ : List ℕ) : Type 0 where
+  pub memory : whole .memory ≡ last .memory
+  pub image : whole .image ≡ last .image
+  -- the reports differ in the counts alone, those of the whole being the sums
+  pub report : whole .report ≡ reportOfRan (later n before r) ++ drop reportSize rep
+  pub lastReport : last .report ≡ reportOfRan r ++ drop reportSize rep′
+
+-- `calls-within`: where the first run's report says that its allowance is spent, the calls are as one of all the steps
+abbrev pub CallsWithin : Type 0
+CallsWithin =
+    (m b : List ℕ) (n k : ℕ) (rep rep′ : List ℕ) → Given m b rep → reportSize ≤ length rep′
+    → byteFrom ((runCall m b n rep) .report) endingAt ≡ endingNumber ending.Spent
+    → AsOne (runCall m b (n + k) rep) (lookedCalls m b n k rep rep′) n ((runOf n (stateFrom b) m) .states) (lookedBetween n k (stateFrom b) m)
+    rep rep′
+
+-- an answer that shows the access that failed in the last step of a run
+pub record AnswerShows (m b : List ℕ) (n answer : ℕ) : Type 0 where
+  pub given : FaultRecord
+  pub answered : answer ≡ faultWord given
+  pub shows : LastShows (stateFrom b) m ((runOf n (stateFrom b) m) .steps) given
+
+-- `call-shows`: where the report says that the kernel was entered with 11, so does the look at the image
+abbrev pub CallShows : Type 0
+CallShows =
+    (m b : List ℕ) (n : ℕ) (rep : List ℕ) → Given m b rep
+    → byteFrom ((runCall m b n rep) .report) endingAt ≡ endingNumber (ending.Entered 11 0 0) → byteFrom ((runCall m b n rep) .report) numberAt ≡ 11
+    → AnswerShows m b n ((faultCall ((runCall m b n rep) .image)) .answer)
+
+-- `isolated-looks`: demand 3 of the look. Behind two calls of which `isolated-calls` (calls/Theorem) speaks, the looks have one answer.
+abbrev pub IsolatedLooks : Type 0
+IsolatedLooks =
+    (m m′ b : List ℕ) (n : ℕ) (rep : List ℕ) → runValid (length m) b (length rep) ≡ Good → isolated.Given m m′ b
+    → (faultCall ((runCall m b n rep) .image)) .answer ≡ (faultCall ((runCall m′ b n rep) .image)) .answer

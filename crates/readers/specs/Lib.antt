@@ -1,0 +1,5 @@
+pub mod Between
+pub mod Consuming
+pub mod Numbers
+pub mod Shown
+pub mod Statement
