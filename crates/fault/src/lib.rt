@@ -22,7 +22,7 @@ pub struct FaultRecord {
 }
 
 // What a reader of the record gives, and the record that it leaves.
-pub struct Reading {
+pub struct Readout {
     pub given: FaultRecord,
     pub left: FaultRecord,
 }
@@ -63,7 +63,7 @@ impl FaultRecord {
     }
 
     // The record as it is, and the one that is left, with this cause.
-    fn leaving(self, cause: u8) -> Reading
+    fn leaving(self, cause: u8) -> Readout
         ensures { λ r. ⌜ r ≡ def.leaving cause self ⌝ }
     {
         let left = FaultRecord {
@@ -71,18 +71,18 @@ impl FaultRecord {
             cause,
             missed: self.missed,
         };
-        Reading { given: self, left }
+        Readout { given: self, left }
     }
 
     // The reader that does not consume: a look.
-    pub fn look(self) -> Reading
+    pub fn look(self) -> Readout
         ensures { λ r. ⌜ r ≡ def.looked self ⌝ }
     {
         self.leaving(self.cause)
     }
 
     // The reader that consumes: IN of A4h.
-    pub fn consume(self) -> Reading
+    pub fn consume(self) -> Readout
         ensures { λ r. ⌜ r ≡ def.consumed self ⌝ }
     {
         self.leaving(0)

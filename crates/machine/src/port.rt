@@ -70,8 +70,8 @@ impl State {
             IO => self.ports.input as u16,
             MMU => self.fault.violation,
             CAUSE => {
-                let reading = self.fault.consume();
-                reading.given.cause as u16
+                let readout = self.fault.consume();
+                readout.given.cause as u16
             }
             MISSED => self.fault.missed as u16,
             FIRST_TLB..=LAST_TLB => {
@@ -88,8 +88,8 @@ impl State {
     {
         if port == CAUSE {
             let old = self.fault;
-            let reading = old.consume();
-            let left = reading.left;
+            let readout = old.consume();
+            let left = readout.left;
             self.fault = left;
             return self;
         }

@@ -22,9 +22,9 @@ impl State {
         ensures { λ r. ⌜ r ≡ lookOf self ⌝ }
     {
         let old = self.fault;
-        let reading = old.look();
-        let given = reading.given;
-        let left = reading.left;
+        let readout = old.look();
+        let given = readout.given;
+        let left = readout.left;
         self.fault = left;
         Looked { given, state: self }
     }
