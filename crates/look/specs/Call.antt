@@ -8,7 +8,7 @@ use Rattle.layout.specs.Valid.{imageValid}
 use Rattle.machine.specs.Look.{lookOf}
 use Rattle.refusal.specs.Call.{ImageCall, imageCalled, unlessRefused}
 
--- the record in one number, 32 bits: the cause, the missed page and the violation address, from the top
+-- the record in one number, 32 bits: cause × 2^24 + missed page × 2^16 + violation address
 abbrev pub faultWord : FaultRecord → ℕ
 faultWord r = r .cause * 16777216 + r .missed * 65536 + r .violation
 

@@ -5,7 +5,7 @@ ghost use Rattle.look.specs.Call as def;
 use fault::FaultRecord;
 use refusal::Validity;
 
-// The record in one number: the cause, the missed page and the violation address, from the top.
+// The record in one number: cause × 2^24 + missed page × 2^16 + violation address.
 fn fault_word(fault: FaultRecord) -> u64
     ensures { λ r. ⌜ r ≡ def.faultWord fault ⌝ }
 {

@@ -5,6 +5,7 @@ use mathlib.Core.List.{List, [], _∷_}
 use mathlib.Core.Path.{_≡_, refl}
 use Prim.Native.Nat.{ℕ, _+_}
 use lib.ListN.{replicate, set}
+use lib.Seq.{sets}
 use Rattle.decode.specs.Decode.{fieldsBad, firstOf, hasSecond, operandOf, usesRx}
 use Rattle.decode.specs.Instructions.{eight, row, rows, single}
 use Rattle.decode.specs.Opcode.{inModes, inRows, modeBits, opcodeOf}
@@ -39,24 +40,20 @@ use Rattle.transfer.specs.Transfer.{transferOf}
 
 -- ---- the buffers
 
--- some bytes, from an address on
-abbrev pub put : List ℕ → ℕ → List ℕ → List ℕ
-put m a [] = m
-put m a (x ∷ xs) = put (set m a x) (a + 1) xs
-
 -- FLAG is 0, G1 1210h, G2 FFFFh, PC 1200h, SSP 0100h, the MMU on; the one TLB entry, 128534h, maps page 12h to frame 34h with the rights to read
 -- and to execute
 unfoldable pub image : List ℕ
 image =
-    put (put (put (put (put (replicate imageSize 0) (regsAt + 2) (0x12 ∷ 0x10 ∷ 0xff ∷ 0xff ∷ [])) sspAt (0x01 ∷ [])) pcAt (0x12 ∷ [])) mmuAt (1 ∷ [])) tlbAt
-    (0x12 ∷ 0x85 ∷ 0x34 ∷ [])
+    sets
+    (set (set (set (sets (replicate imageSize 0) (regsAt + 2) (0x12 ∷ 0x10 ∷ 0xff ∷ 0xff ∷ [])) sspAt 0x01) pcAt 0x12) mmuAt 1)
+    tlbAt (0x12 ∷ 0x85 ∷ 0x34 ∷ [])
 
 -- zero but ST G0,[G1] at 3400h, which the program finds at 1200h; the vector of 11, at FFF6h, which is 0200h; and there IN G0,00A4h and
 -- IN G2,00A4h
 unfoldable pub memory : List ℕ
 memory =
-    put (put (put (replicate 65536 0) 0x3400 (0x16 ∷ 0x01 ∷ [])) 0xfff6 (0x02 ∷ [])) 0x0200
-    (0xb0 ∷ 0x00 ∷ 0x00 ∷ 0xa4 ∷ 0xb0 ∷ 0x20 ∷ 0x00 ∷ 0xa4 ∷ [])
+    sets (set (sets (replicate 65536 0) 0x3400 (0x16 ∷ 0x01 ∷ [])) 0xfff6 0x02)
+    0x0200 (0xb0 ∷ 0x00 ∷ 0x00 ∷ 0xa4 ∷ 0xb0 ∷ 0x20 ∷ 0x00 ∷ 0xa4 ∷ [])
 
 unfoldable pub report : List ℕ
 report = replicate reportSize 0
