@@ -142,8 +142,8 @@ enum {
     TAC_REPORT_LENGTH = 8   /* the report is too short */
 };
 
-/* The parts of an answer: a refusal × 2^32 + P, or, where nothing is refused, the number of report bytes filled, and of tac_fault the
- * fault record: cause × 2^24 + missed page × 2^16 + violation address. */
+/* The parts of an answer: a refusal × 2^32 + P; where nothing is refused, the number of report bytes filled, or from tac_fault the fault
+ * record: cause × 2^24 + missed page × 2^16 + violation address. Test TAC_REFUSAL first: a refused look has 0 in all parts of the record. */
 #define TAC_REFUSAL(answer) ((unsigned)((answer) >> 32))
 #define TAC_PLACE(answer) ((uint32_t)(answer))
 #define TAC_FILLED(answer) ((uint32_t)(answer))

@@ -69,7 +69,7 @@ static bool take_end(const struct line *line)
 }
 
 /* A command of no words that only shows. */
-static bool look(const struct line *line, void (*show)(const struct machine *machine))
+static bool only_show(const struct line *line, void (*show)(const struct machine *machine))
 {
     if (!take_end(line))
         return false;
@@ -77,9 +77,9 @@ static bool look(const struct line *line, void (*show)(const struct machine *mac
     return true;
 }
 
-static bool do_show(struct line *line) { return look(line, show_machine); }
+static bool do_show(struct line *line) { return only_show(line, show_machine); }
 
-static bool do_fault(struct line *line) { return look(line, show_fault); }
+static bool do_fault(struct line *line) { return only_show(line, show_fault); }
 
 static bool do_step(struct line *line)
 {

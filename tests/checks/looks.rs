@@ -269,7 +269,7 @@ fn eaten(memory: &mut [u8], image: &mut [u8], allowance: u16, report: &mut [u8])
     card::run(memory, image, allowance, report)
 }
 
-/// IN of A4h clears nothing for long.
+/// What IN of A4h cleared is back after the run.
 fn kept(memory: &mut [u8], image: &mut [u8], allowance: u16, report: &mut [u8]) -> u64 {
     let cause = image[image::CAUSE];
     let answer = card::run(memory, image, allowance, report);

@@ -1,4 +1,4 @@
--- Demand 3 on calls. A run is called with a memory, an image, an allowance and a report; `runCall` (tac/Call), the contract of `tac_run`, says
+-- Demand 3 on calls. A run is called with a memory, an image, an allowance and a report; `runCall` (direct/Call), the contract of `tac_run`, says
 -- what it answers and what it leaves in them. `isolated-calls`: two such calls that differ in the memory alone are `Together`.
 -- Assumes nothing.
 use mathlib.Core.Bool.{false}

@@ -1,15 +1,11 @@
 -- What a card's call knows that passed its tests.
 -- Assumes nothing.
-use mathlib.Core.Bool.{true}
 use mathlib.Core.List.{List}
 use mathlib.Core.Path.{_≡_}
 use Prim.Native.Nat.{ℕ, _*_, _≤_}
-use borrow.Author.Tests.{eq-eqb, le-leb}
-use lib.ListN.{length}
-use Rattle.layout.specs.Laws.{MachineGood, machine-good}
-use Rattle.layout.specs.Layout.{imageSize}
-use Rattle.layout.specs.Valid.{goodImage, imageValid, machineValid, memoryValid}
-use Rattle.refusal.specs.Laws.{report-good, then-good}
+use Rattle.layout.specs.Laws.{MachineGood, machine-good, machine-passes}
+use Rattle.layout.specs.Valid.{machineValid}
+use Rattle.refusal.specs.Laws.{report-good, report-passes, then-good}
 use Rattle.refusal.specs.Refusal.{reportFits}
 use Rattle.refusal.specs.declared.Validity.the-variants.{Good}
 use Rattle.report.specs.Layout.{reportSize}
@@ -18,9 +14,7 @@ use Rattle.card.specs.Call.{cardValid}
 
 -- memory and image are good, the card is read whole, and the report is long enough for its runs
 pub record Passed (long : ℕ) (image card : List ℕ) (report : ℕ) : Type 0 where
-  pub memory : long ≡ 65536
-  pub size : length image ≡ imageSize
-  pub fields : goodImage image ≡ true
+  pub machine : MachineGood long image
   pub read : (readingOf card) .validity ≡ Good
   pub room : reportSize * runsIn ((readingOf card) .commands) ≤ report
 
@@ -30,16 +24,8 @@ module _ (long : ℕ) (image card : List ℕ) (report : ℕ) where
   passed e =
       let all = then-good _ (reportFits report (reportSize * runsIn ((readingOf card) .commands))) e in
       let first = then-good (machineValid long image) ((readingOf card) .validity) (all .0) in
-      let m : MachineGood long image = machine-good long image (first .0) in
-      record { memory = m .memory; size = m .size; fields = m .fields; read = first .1; room = report-good report _ (all .1) }
+      record { machine = machine-good long image (first .0); read = first .1; room = report-good report _ (all .1) }
 
   pub passes : Passed long image card report → cardValid long image card report ≡ Good
-  unfolding cardValid memoryValid imageValid reportFits
-  passes p =
-      rw (
-        eq-eqb long 65536 (p .memory),
-        eq-eqb (length image) imageSize (p .size),
-        p .fields,
-        p .read,
-        le-leb (reportSize * runsIn ((readingOf card) .commands)) report (p .room),
-      )
+  unfolding cardValid
+  passes p = rw (machine-passes long image (p .machine), p .read) (report-passes report _ (p .room))

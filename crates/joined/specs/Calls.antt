@@ -35,7 +35,7 @@ module _ (m b card rep : List ℕ) (good : cardValid (length m) b card (length r
   module _ (memory : Bytes m) (image : Bytes b) (bytes : Bytes card) where
     pub call-keeps : Kept (length m) ((cardExecuted m b card) .state) ((cardExecuted m b card) .memory)
     call-keeps =
-        let fields : goodImage b ≡ true = passed (length m) b card (length rep) good .fields in
+        let fields : goodImage b ≡ true = passed (length m) b card (length rep) good .machine .image .fields in
         execute-good card bytes (stateFrom b) m (sound-decoded b image fields) memory
 
     leaves : Left m (cardCall m b card rep)

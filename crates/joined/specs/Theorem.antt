@@ -69,9 +69,7 @@ module _ (m b a c rep : List ℕ) where
       let card : (readingOf (a ++ c)) .validity ≡ Good = joined-good a c (p .read) (q .read) (x .short) in
       passes (length m) b (a ++ c) (length rep)
       (record {
-        memory = p .memory;
-        size = p .size;
-        fields = p .fields;
+        machine = p .machine;
         read = card;
         room = omega (arith, all-runs a c (p .read) card, length-drop filled rep);
       })
@@ -89,9 +87,7 @@ module _ (m b a c rep : List ℕ) where
     first-passes =
         passes (length m) b a (length rep)
         (record {
-          memory = joint .memory;
-          size = joint .size;
-          fields = joint .fields;
+          machine = joint .machine;
           read = given .firstCard;
           room = omega (arith, joint .room, runs);
         })
@@ -110,9 +106,7 @@ module _ (m b a c rep : List ℕ) where
     second-passes =
         passes _ _ c (length (reportLeft m b a c rep))
         (record {
-          memory = left .memoryLong ∙ joint .memory;
-          size = left .imageLong;
-          fields = left .imageGood;
+          machine = record { memory = left .memoryLong ∙ joint .machine .memory; image = record { size = left .imageLong; fields = left .imageGood } };
           read = second-good a c (given .firstCard) (joint .read);
           room = rw (rest-is first-passes) (omega (arith, joint .room, runs, length-drop filled rep));
         })

@@ -13,30 +13,32 @@ use Rattle.layout.specs.Layout.{imageSize}
 use Rattle.layout.specs.Valid.{goodImage, imageValid, machineValid, memoryValid}
 
 -- an image that passed its tests
-pub record ImageGood (image : List ℕ) : Type 0 where
-  pub size : length image ≡ imageSize
-  pub fields : goodImage image ≡ true
+pub record ImageGood (b : List ℕ) : Type 0 where
+  pub size : length b ≡ imageSize
+  pub fields : goodImage b ≡ true
 
-pub image-good : (image : List ℕ) → imageValid image ≡ Good → ImageGood image
+pub image-good : (b : List ℕ) → imageValid b ≡ Good → ImageGood b
 unfolding imageValid
-image-good image e =
-    let size = test-good (eqb (length image) imageSize) _ _ e in
-    let fields = test-good (goodImage image) _ _ (size .1) in
-    record { size = eqb-true (length image) imageSize (size .0); fields = fields .0 }
+image-good b e =
+    let size = test-good (eqb (length b) imageSize) _ _ e in
+    let fields = test-good (goodImage b) _ _ (size .1) in
+    record { size = eqb-true (length b) imageSize (size .0); fields = fields .0 }
 
-pub image-passes : (image : List ℕ) → ImageGood image → imageValid image ≡ Good
+pub image-passes : (b : List ℕ) → ImageGood b → imageValid b ≡ Good
 unfolding imageValid
-image-passes image g = rw (eq-eqb (length image) imageSize (g .size), g .fields)
+image-passes b g = rw (eq-eqb (length b) imageSize (g .size), g .fields)
 
 -- memory and image
-pub record MachineGood (long : ℕ) (image : List ℕ) : Type 0 where
+pub record MachineGood (long : ℕ) (b : List ℕ) : Type 0 where
   pub memory : long ≡ 65536
-  pub size : length image ≡ imageSize
-  pub fields : goodImage image ≡ true
+  pub image : ImageGood b
 
-pub machine-good : (long : ℕ) (image : List ℕ) → machineValid long image ≡ Good → MachineGood long image
+pub machine-good : (long : ℕ) (b : List ℕ) → machineValid long b ≡ Good → MachineGood long b
 unfolding memoryValid
-machine-good long image e =
-    let both = then-good (memoryValid long) (imageValid image) e in
-    let good : ImageGood image = image-good image (both .1) in
-    record { memory = eqb-true long 65536 (test-good (eqb long 65536) _ _ (both .0) .0); size = good .size; fields = good .fields }
+machine-good long b e =
+    let both = then-good (memoryValid long) (imageValid b) e in
+    record { memory = eqb-true long 65536 (test-good (eqb long 65536) _ _ (both .0) .0); image = image-good b (both .1) }
+
+pub machine-passes : (long : ℕ) (b : List ℕ) → MachineGood long b → machineValid long b ≡ Good
+unfolding memoryValid
+machine-passes long b g = rw (eq-eqb long 65536 (g .memory), image-passes b (g .image))

@@ -10,6 +10,7 @@ use Rattle.direct.specs.Call.{runCall}
 use Rattle.endian.specs.Bytes.{byteFrom, wordFrom}
 use Rattle.fault.specs.declared.FaultRecord.{FaultRecord}
 use Rattle.image.specs.Decode.{stateFrom}
+use Rattle.image.specs.Image.{imageOf}
 use Rattle.layout.specs.Layout.{causeAt, missedAt, violationAt}
 use Rattle.layout.specs.Valid.{imageValid}
 use Rattle.look.specs.Call.{faultCall, faultWord}
@@ -32,15 +33,24 @@ use Rattle.view.specs.Call.{runValid}
 abbrev pub LookKeeps : Type 0
 LookKeeps = (b : List ℕ) → (faultCall b) .image ≡ b
 
--- `look-parts`: the answer of a look that is not refused is below 2^32, where no refusal's is, and its parts are the bytes of the image
-pub record Parts (b : List ℕ) (answer : ℕ) : Type 0 where
+-- the parts of an answer that holds a record: it is below 2^32, where no refusal's is
+pub record Parts (r : FaultRecord) (answer : ℕ) : Type 0 where
   pub small : answer < 4294967296
-  pub cause : answer / 16777216 ≡ byteFrom b causeAt
-  pub missed : answer / 65536 % 256 ≡ byteFrom b missedAt
-  pub violation : answer % 65536 ≡ wordFrom b violationAt
+  pub cause : answer / 16777216 ≡ r .cause
+  pub missed : answer / 65536 % 256 ≡ r .missed
+  pub violation : answer % 65536 ≡ r .violation
 
+-- the record in the bytes of an image
+abbrev pub recordIn : List ℕ → FaultRecord
+recordIn b = record { violation = wordFrom b violationAt; cause = byteFrom b causeAt; missed = byteFrom b missedAt }
+
+-- `look-parts`: the parts of the answer of a look that is not refused are the bytes of the image
 abbrev pub LookParts : Type 0
-LookParts = (b : List ℕ) → Bytes b → imageValid b ≡ Good → Parts b ((faultCall b) .answer)
+LookParts = (b : List ℕ) → Bytes b → imageValid b ≡ Good → Parts (recordIn b) ((faultCall b) .answer)
+
+-- `look-image`: and the image is that of the state that the look leaves
+abbrev pub LookImage : Type 0
+LookImage = (b : List ℕ) → Bytes b → imageValid b ≡ Good → imageOf ((lookOf (stateFrom b)) .state) ≡ (faultCall b) .image
 
 -- a call of a run that passes its tests, on bytes
 pub record Given (m b rep : List ℕ) : Type 0 where
@@ -66,11 +76,12 @@ lookedCalls m b n k rep rep′ = let c : Call = runCall m b n rep in runCall (c 
 abbrev pub CallsBetween : Type 0
 CallsBetween = (m b : List ℕ) (n k : ℕ) (rep rep′ : List ℕ) → lookedCalls m b n k rep rep′ ≡ callsApart m b n k rep rep′
 
--- `whole` is the call of one run of all the steps, and `last` that of the second run, whose end is r
+-- `whole` is the call of one run of all the steps, and `last` that of the second run, whose end is r; the first did n steps in `before` states
 pub record AsOne (whole last : Call) (n before : ℕ) (r : Ran) (rep rep′ : List ℕ) : Type 0 where
+  pub answer : whole .answer ≡ last .answer
   pub memory : whole .memory ≡ last .memory
   pub image : whole .image ≡ last .image
-  -- the reports differ in the counts alone, those of the whole being the sums
+  -- the 12 bytes differ in the counts alone, those of the whole being the sums; behind them each report is as it was
   pub report : whole .report ≡ reportOfRan (later n before r) ++ drop reportSize rep
   pub lastReport : last .report ≡ reportOfRan r ++ drop reportSize rep′
 
@@ -82,21 +93,22 @@ CallsWithin =
     → AsOne (runCall m b (n + k) rep) (lookedCalls m b n k rep rep′) n ((runOf n (stateFrom b) m) .states) (lookedBetween n k (stateFrom b) m)
     rep rep′
 
--- an answer that shows the access that failed in the last step of a run
+-- an answer whose parts show the access that failed in the last step of a run
 pub record AnswerShows (m b : List ℕ) (n answer : ℕ) : Type 0 where
   pub given : FaultRecord
-  pub answered : answer ≡ faultWord given
+  pub parts : Parts given answer
   pub shows : LastShows (stateFrom b) m ((runOf n (stateFrom b) m) .steps) given
 
--- `call-shows`: where the report says that the kernel was entered with 11, so does the look at the image
+-- `call-shows`: where the report says that the kernel was entered with 11, the look at the image shows the access that failed
 abbrev pub CallShows : Type 0
 CallShows =
-    (m b : List ℕ) (n : ℕ) (rep : List ℕ) → Given m b rep
-    → byteFrom ((runCall m b n rep) .report) endingAt ≡ endingNumber (ending.Entered 11 0 0) → byteFrom ((runCall m b n rep) .report) numberAt ≡ 11
+    (m b : List ℕ) (n : ℕ) (rep : List ℕ) → Given m b rep → isolated.Enters (runCall m b n rep)
+    → byteFrom ((runCall m b n rep) .report) numberAt ≡ 11
     → AnswerShows m b n ((faultCall ((runCall m b n rep) .image)) .answer)
 
--- `isolated-looks`: demand 3 of the look. Behind two calls of which `isolated-calls` (calls/Theorem) speaks, the looks have one answer.
+-- `isolated-looks`: demand 3 of the look. Behind two calls of which `isolated-calls` (calls/Theorem) speaks, refused ones too, the looks have one
+-- answer.
 abbrev pub IsolatedLooks : Type 0
 IsolatedLooks =
-    (m m′ b : List ℕ) (n : ℕ) (rep : List ℕ) → runValid (length m) b (length rep) ≡ Good → isolated.Given m m′ b
+    (m m′ b : List ℕ) (n : ℕ) (rep : List ℕ) → isolated.Given m m′ b
     → (faultCall ((runCall m b n rep) .image)) .answer ≡ (faultCall ((runCall m′ b n rep) .image)) .answer

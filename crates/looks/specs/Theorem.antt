@@ -3,19 +3,18 @@
 use mathlib.Core.List.{List}
 use mathlib.Core.Logic.{_⊎_, ⊎-elim}
 use mathlib.Core.Path.{_≡_, ap, refl, sym, _∙_}
-use Prim.Native.Nat.{ℕ, _*_, _+_, _≤_}
+use Prim.Native.Nat.{ℕ, _+_, _≤_}
 use native.Mathlib.Omega.{arith}
-use borrow.Author.Tests.{eq-eqb, le-leb}
 use lib.ListN.{getD, length}
 use Rattle.calls.specs.Statement as isolated
 use Rattle.calls.specs.Theorem.{isolated-calls}
 use Rattle.direct.specs.Call.{ranCall, runCall}
-use Rattle.endian.specs.Bytes.{byteFrom, wordFrom}
+use Rattle.fault.specs.declared.FaultRecord.{FaultRecord}
 use Rattle.image.specs.Decode.{stateFrom}
 use Rattle.image.specs.Image.{imageOf}
-use Rattle.layout.specs.Laws.{image-passes}
+use Rattle.layout.specs.Laws.{ImageGood, MachineGood, image-good, image-passes}
 use Rattle.layout.specs.Layout.{causeAt, missedAt, violationAt}
-use Rattle.layout.specs.Valid.{imageValid, memoryValid}
+use Rattle.layout.specs.Valid.{imageValid}
 use Rattle.look.specs.Call.{faultCall, faultWord}
 use Rattle.machine.specs.Answers.{endingEntered, endingNumber}
 use Rattle.machine.specs.Run.{Ran, runOf}
@@ -27,7 +26,6 @@ use Rattle.readers.specs.Between.{look-within}
 use Rattle.readers.specs.Shown.{run-shows}
 use Rattle.readers.specs.Statement.{lookedBetween}
 use Rattle.refusal.specs.Call.{Call, imageCalled, unlessRefused}
-use Rattle.refusal.specs.Refusal.{reportFits}
 use Rattle.refusal.specs.declared.Validity.{Validity}
 use Rattle.refusal.specs.declared.Validity.the-variants.{Good, Refused}
 use Rattle.report.specs.Layout.{reportSize}
@@ -35,9 +33,11 @@ use Rattle.report.specs.Report.{reportOf}
 use Rattle.roundtrip.specs.Good.{good-encodes, image-long}
 use Rattle.roundtrip.specs.Ranged.{decoded, image-bytes, ranged-decoded}
 use Rattle.roundtrip.specs.Runs.{run-memory-long, run-sound, sound-decoded}
-use Rattle.roundtrip.specs.Statement.{Bytes, Sound}
-use Rattle.view.specs.Valid.{Passed, passed}
-use Rattle.looks.specs.Statement.{AsOne, CallShows, CallsBetween, CallsWithin, Given, IsolatedLooks, LookAfter, LookKeeps, LookParts, lookedCalls}
+use Rattle.roundtrip.specs.Images.{encoded}
+use Rattle.roundtrip.specs.Statement.{Byte, Bytes, Sound, Word}
+use Rattle.view.specs.Call.{runValid}
+use Rattle.view.specs.Valid.{Passed, passed, passes}
+use Rattle.looks.specs.Statement.{AsOne, CallShows, CallsBetween, CallsWithin, Given, IsolatedLooks, LookAfter, LookImage, LookKeeps, LookParts, Parts, lookedCalls, recordIn}
 
 -- ---- one look
 
@@ -50,19 +50,21 @@ unfolding faultCall
 look-keeps b = kept-by (imageValid b) b _
 
 -- a look that passes its tests, by the bytes of the image
-look-bytes :
-    (b : List ℕ) → imageValid b ≡ Good
-    → (faultCall b) .answer ≡ byteFrom b causeAt * 16777216 + byteFrom b missedAt * 65536 + wordFrom b violationAt
+look-bytes : (b : List ℕ) → imageValid b ≡ Good → (faultCall b) .answer ≡ faultWord (recordIn b)
 unfolding faultCall stateFrom
 look-bytes b e = rw e
+
+-- a record whose numbers fit can be read back
+parts-of : (r : FaultRecord) → Byte (r .cause) → Byte (r .missed) → Word (r .violation) → Parts r (faultWord r)
+parts-of r c m v = record { small = omega arith; cause = omega arith; missed = omega arith; violation = omega arith }
 
 pub look-parts : LookParts
 unfolding stateFrom
 look-parts b bytes e =
-    let cause = bytes causeAt in
-    let missed = bytes missedAt in
-    let violation = ranged-decoded b bytes .refused in
-    rw (look-bytes b e) (record { small = omega arith; cause = omega arith; missed = omega arith; violation = omega arith })
+    rw (look-bytes b e) (parts-of (recordIn b) (bytes causeAt) (bytes missedAt) (ranged-decoded b bytes .refused))
+
+pub look-image : LookImage
+look-image b bytes e = let good : ImageGood b = image-good b e in encoded b (good .size) bytes (good .fields) ∙ sym (look-keeps b)
 
 -- ---- what a run leaves
 
@@ -78,23 +80,27 @@ module _ (m b : List ℕ) (n : ℕ) (rep : List ℕ) (g : Given m b rep) where
   tested = passed (length m) b (length rep) (g .passed)
 
   start : Sound (stateFrom b)
-  start = sound-decoded b (g .imageBytes) (tested .fields)
+  start = sound-decoded b (g .imageBytes) (tested .machine .image .fields)
 
   left : Sound (done .state) × Bytes (done .memory)
   left = run-sound n (stateFrom b) m start (g .memoryBytes)
 
+  left-good : ImageGood (imageOf (done .state))
+  left-good = record { size = image-long (done .state) (left .0 .good); fields = good-encodes (done .state) (left .0 .good) }
+
   left-passes : imageValid (imageOf (done .state)) ≡ Good
-  left-passes =
-      image-passes _ (record { size = image-long (done .state) (left .0 .good); fields = good-encodes (done .state) (left .0 .good) })
+  left-passes = image-passes _ left-good
 
   -- can be handed to another call
   left-given : (rep′ : List ℕ) → reportSize ≤ length rep′ → Given (done .memory) (imageOf (done .state)) rep′
-  unfolding memoryValid reportFits
   left-given rep′ room =
+      let machine : MachineGood (length (done .memory)) (imageOf (done .state)) =
+      record { memory = run-memory-long n (stateFrom b) m ∙ tested .machine .memory; image = left-good }
+      in
       record {
         memoryBytes = left .1;
         imageBytes = image-bytes (done .state) (left .0 .good) (left .0 .ranged);
-        passed = rw (eq-eqb _ _ (run-memory-long n (stateFrom b) m ∙ tested .memory), left-passes, le-leb _ _ room);
+        passed = passes _ _ _ (record { machine = machine; room = room });
       }
 
   back : stateFrom (imageOf (done .state)) ≡ done .state
@@ -140,7 +146,7 @@ module _ (m b : List ℕ) (n k : ℕ) (rep rep′ : List ℕ) (g : Given m b rep
       rep rep′
   within e =
       rw (whole-is (spent-by ((runOf n (stateFrom b) m) .ending) e), last-is)
-      (record { memory = refl; image = refl; report = refl; lastReport = refl })
+      (record { answer = refl; memory = refl; image = refl; report = refl; lastReport = refl })
 
 pub calls-within : CallsWithin
 unfolding reportOf
@@ -165,9 +171,11 @@ unfolding reportOf
 call-shows m b n rep g e f =
     let r : Ran = runOf n (stateFrom b) m in
     let x : EnteredEleven (r .ending) = entered-by (r .ending) (rw (call-is m b n rep g) at e) (rw (call-is m b n rep g) at f) in
+    let s : Sound (r .state) = left m b n rep g .0 in
+    let cause : Byte (r .state .fault .cause) = omega (arith, s .good .causes) in
     record {
       given = r .state .fault;
-      answered = look-after m b n rep g;
+      parts = rw (look-after m b n rep g) (parts-of (r .state .fault) cause (s .ranged .page) (s .ranged .refused));
       shows = run-shows n (stateFrom b) m (x .saved) (x .flag) (start m b n rep g .good) (x .is);
     }
 
@@ -179,15 +187,34 @@ not-pc :
     → getD (c .image) k 0 ≡ getD (c′ .image) k 0
 not-pc c c′ k h l = ⊎-elim (λ e. e) (λ p. absurd (⊎-elim (λ e. omega arith) (λ e. omega arith) (p .1))) h
 
+module _ (m m′ b : List ℕ) (n : ℕ) (rep : List ℕ) (g : isolated.Given m m′ b) where
+  abbrev c : Call
+  c = runCall m b n rep
+
+  abbrev c′ : Call
+  c′ = runCall m′ b n rep
+
+  long : length m ≡ length m′
+  long = g .alike .long ∙ sym (g .alike .long′)
+
+  both : isolated.Together m m′ b rep c c′
+  both = isolated-calls m m′ b n rep long
+
+  passed-alike : runValid (length m) b (length rep) ≡ Good → (faultCall (c .image)) .answer ≡ (faultCall (c′ .image)) .answer
+  passed-alike e =
+      let given : Given m b rep = record { memoryBytes = g .memoryBytes; imageBytes = g .imageBytes; passed = e } in
+      let given′ : Given m′ b rep = record { memoryBytes = g .memoryBytes′; imageBytes = g .imageBytes; passed = rw (← long) e } in
+      let same : (k : ℕ) → violationAt ≤ k → getD (c .image) k 0 ≡ getD (c′ .image) k 0 = λ k. not-pc c c′ k (both .passed e g .image k) in
+      look-bytes (c .image) (rw (call-is m b n rep given) (left-passes m b n rep given))
+      ∙ rw (same causeAt (omega arith), same missedAt (omega arith), same violationAt (omega arith), same (violationAt + 1) (omega arith))
+      (sym (look-bytes (c′ .image) (rw (call-is m′ b n rep given′) (left-passes m′ b n rep given′))))
+
+  alike-by : (v : Validity) → runValid (length m) b (length rep) ≡ v → (faultCall (c .image)) .answer ≡ (faultCall (c′ .image)) .answer
+  alike-by Good e = passed-alike e
+  alike-by (Refused r) e = let refused = both .refused r e in rw (refused .0, refused .1)
+
+  looks-alike : (faultCall (c .image)) .answer ≡ (faultCall (c′ .image)) .answer
+  looks-alike = alike-by (runValid (length m) b (length rep)) refl
+
 pub isolated-looks : IsolatedLooks
-isolated-looks m m′ b n rep e g =
-    let long : length m ≡ length m′ = g .alike .long ∙ sym (g .alike .long′) in
-    let given : Given m b rep = record { memoryBytes = g .memoryBytes; imageBytes = g .imageBytes; passed = e } in
-    let given′ : Given m′ b rep = record { memoryBytes = g .memoryBytes′; imageBytes = g .imageBytes; passed = rw (← long) e } in
-    let c : Call = runCall m b n rep in
-    let c′ : Call = runCall m′ b n rep in
-    let shared : isolated.Shared m m′ b c c′ = isolated-calls m m′ b n rep long .passed e g in
-    let same : (k : ℕ) → violationAt ≤ k → getD (c .image) k 0 ≡ getD (c′ .image) k 0 = λ k. not-pc c c′ k (shared .image k) in
-    look-bytes (c .image) (rw (call-is m b n rep given) (left-passes m b n rep given))
-    ∙ rw (same causeAt (omega arith), same missedAt (omega arith), same violationAt (omega arith), same (violationAt + 1) (omega arith))
-    (sym (look-bytes (c′ .image) (rw (call-is m′ b n rep given′) (left-passes m′ b n rep given′))))
+isolated-looks = looks-alike

@@ -21,12 +21,12 @@ use Rattle.readers.specs.Statement.{Consumes, InConsumes, LookIsIn}
 
 pub look-is-in : LookIsIn
 unfolding portIn recordAfterIn
-look-is-in st s = (
+look-is-in st c m = (
   record {
-    cause = omega (arith, s .good .causes);
-    causeUpper = omega (arith, s .good .causes);
-    missed = omega (arith, s .ranged .page);
-    missedUpper = omega (arith, s .ranged .page);
+    cause = omega arith;
+    causeUpper = omega arith;
+    missed = omega arith;
+    missedUpper = omega arith;
     violation = refl;
   },
   record { cause = refl; violation = refl; missed = refl },

@@ -31,7 +31,7 @@ use Rattle.roundtrip.specs.Statement.{GoodState}
 use Rattle.roundtrip.specs.Steps.{step-good}
 use Rattle.readers.specs.Consuming.{fault-kept}
 use Rattle.readers.specs.Numbers.{Other, plan-other}
-use Rattle.readers.specs.Statement.{LastShows, RunShows, Shows, StepShows}
+use Rattle.readers.specs.Statement.{LastShows, RunShows, StepShows}
 
 -- ---- an entry with 11
 

@@ -23,7 +23,7 @@ use Rattle.mmu.specs.Answers.{causeBit, faultNumber}
 use Rattle.mmu.specs.declared.Fault.{Fault}
 use Rattle.plan.specs.declared.Operation.{Operation}
 use Rattle.plan.specs.declared.Plan.the-variants.{Perform, Violation}
-use Rattle.roundtrip.specs.Statement.{GoodState, Sound}
+use Rattle.roundtrip.specs.Statement.{Byte, GoodState}
 use Rattle.word.specs.Word.{lower, upper}
 
 -- ---- a look between two runs
@@ -66,7 +66,7 @@ pub record CauseGone (r r′ : FaultRecord) : Type 0 where
 -- `look-is-in`: what the look gives is what IN would give, and after IN of A4h the look gives cause 0
 abbrev pub LookIsIn : Type 0
 LookIsIn =
-    (st : State) → Sound st
+    (st : State) → Byte (st .fault .cause) → Byte (st .fault .missed)
     → AsPorts st ((lookOf st) .given) × CauseGone ((lookOf st) .given) ((lookOf (afterIn st causePort)) .given)
 
 -- `in-consumes`: so too of a step that carries out IN of A4h. Rd gets the cause that a look before it gives, and a look after it gives cause 0;

@@ -5,7 +5,7 @@ use mathlib.Core.Path.{refl, _≡_}
 use Prim.Native.Nat.{ℕ, _<_, _≤_}
 use native.Mathlib.Omega.{arith}
 use lib.Dec.{leb}
-use borrow.Author.Tests.{leb-true}
+use borrow.Author.Tests.{le-leb, leb-true}
 use Rattle.refusal.specs.Refusal.{andThen, answerOf, causeNumber, reportFits}
 use Rattle.refusal.specs.declared.Cause.{Cause}
 use Rattle.refusal.specs.declared.Cause.the-variants.{CardLength, CommandBeyond, CommandShort, CommandUnknown, ImageField, ImageLength, MemoryLength, ReportLength}
@@ -31,6 +31,10 @@ test-good false v r e = not-good r e
 pub report-good : (long needed : ℕ) → reportFits long needed ≡ Good → needed ≤ long
 unfolding reportFits
 report-good long needed e = leb-true needed long (test-good (leb needed long) Good _ e .0)
+
+pub report-passes : (long needed : ℕ) → needed ≤ long → reportFits long needed ≡ Good
+unfolding reportFits
+report-passes long needed h = rw (le-leb needed long h)
 
 -- numbers begin at 1
 pub number-positive : (c : Cause) → 1 ≤ causeNumber c

@@ -1,36 +1,34 @@
 -- What a call knows that passed its tests, and a run of no step.
 -- Assumes nothing.
-use mathlib.Core.Bool.{true}
 use mathlib.Core.List.{List}
 use mathlib.Core.Path.{refl, _≡_}
 use Prim.Native.Nat.{ℕ, _≤_}
-use lib.ListN.{length}
-use Rattle.layout.specs.Laws.{MachineGood, machine-good}
-use Rattle.layout.specs.Layout.{imageSize}
-use Rattle.layout.specs.Valid.{goodImage, machineValid}
+use Rattle.layout.specs.Laws.{MachineGood, machine-good, machine-passes}
+use Rattle.layout.specs.Valid.{machineValid}
 use Rattle.machine.specs.Run.{ran, runFrom, runOf, stoppedEnding, unlessStopped}
 use Rattle.machine.specs.declared.Condition.the-variants as condition
 use Rattle.machine.specs.declared.Condition.{Condition}
 use Rattle.machine.specs.declared.Ending.the-variants as ending
 use Rattle.machine.specs.declared.State.{State}
-use Rattle.refusal.specs.Laws.{report-good, then-good}
+use Rattle.refusal.specs.Laws.{report-good, report-passes, then-good}
 use Rattle.refusal.specs.Refusal.{reportFits}
 use Rattle.refusal.specs.declared.Validity.the-variants.{Good}
 use Rattle.report.specs.Layout.{reportSize}
 use Rattle.view.specs.Call.{runValid}
 
--- memory, image and report are long enough, and the image is good
+-- memory and image are good, and the report is long enough
 pub record Passed (long : ℕ) (image : List ℕ) (report : ℕ) : Type 0 where
-  pub memory : long ≡ 65536
-  pub size : length image ≡ imageSize
-  pub fields : goodImage image ≡ true
+  pub machine : MachineGood long image
   pub room : reportSize ≤ report
 
-pub passed : (long : ℕ) (image : List ℕ) (report : ℕ) → runValid long image report ≡ Good → Passed long image report
-passed long image report e =
-    let both = then-good (machineValid long image) (reportFits report reportSize) e in
-    let m : MachineGood long image = machine-good long image (both .0) in
-    record { memory = m .memory; size = m .size; fields = m .fields; room = report-good report reportSize (both .1) }
+module _ (long : ℕ) (image : List ℕ) (report : ℕ) where
+  pub passed : runValid long image report ≡ Good → Passed long image report
+  passed e =
+      let both = then-good (machineValid long image) (reportFits report reportSize) e in
+      record { machine = machine-good long image (both .0); room = report-good report reportSize (both .1) }
+
+  pub passes : Passed long image report → runValid long image report ≡ Good
+  passes p = rw (machine-passes long image (p .machine)) (report-passes report reportSize (p .room))
 
 stopped : (x : Condition) (st : State) (m : List ℕ) → unlessStopped x st m 0 0 (ran st m 0 0 ending.Spent) ≡ ran st m 0 0 (stoppedEnding x)
 stopped condition.Running st m = refl

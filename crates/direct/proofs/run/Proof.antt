@@ -23,7 +23,7 @@ enum-told c = search needs
 run-valid-requires : tie.Need-run-valid-requires
 run-valid-requires c κs =
     let p = passed _ _ _ (sym (c .before .before .before .before .before .validate-run .ensures) ∙ c .before .before .before .enum-told .given .1) in
-    (p .memory, p .size, p .room)
+    (p .machine .memory, p .machine .image .size, p .room)
 
 same-length : tie.Need-same-length
 same-length c = search needs

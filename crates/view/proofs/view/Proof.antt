@@ -23,7 +23,7 @@ enum-told c = search needs
 view-valid-requires : tie.Need-view-valid-requires
 view-valid-requires c κs =
     let p = passed _ _ _ (sym (c .before .before .before .validate-run .ensures) ∙ c .before .enum-told .given .1) in
-    (p .size, p .room)
+    (p .machine .image .size, p .room)
 
 returns : tie.Need-returns
 unfolding viewCall

@@ -33,7 +33,7 @@ execute-valid-requires : tie.Need-execute-valid-requires
 execute-valid-requires c κs =
     let p = good (c .before .before .before) in
     let r = read-whole _ (p .read) in
-    (p .memory, p .size, r .0, rw (r .1) at (p .room))
+    (p .machine .memory, p .machine .image .size, r .0, rw (r .1) at (p .room))
 
 same-length : tie.Need-same-length
 same-length c = search needs
