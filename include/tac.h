@@ -25,11 +25,11 @@ extern "C" {
 #endif
 
 /* The version of this interface. MAJOR goes up where a caller has to change, as for another size of the image; MINOR with a new call. */
-#define TAC_VERSION_MAJOR 1
-#define TAC_VERSION_MINOR 1
+#define TAC_VERSION_MAJOR 2
+#define TAC_VERSION_MINOR 0
 
 #define TAC_MEMORY_BYTES 65536
-#define TAC_IMAGE_BYTES 68
+#define TAC_IMAGE_BYTES 84
 #define TAC_REPORT_BYTES 12
 #define TAC_CARD_BYTES 4096                                         /* at most */
 #define TAC_CARD_RUNS (TAC_CARD_BYTES / 3)                          /* at most, of 3 bytes each: 1,365 */
@@ -53,7 +53,9 @@ enum {
     TAC_IMAGE_VIOLATION = 40,  /* word: violation address */
     TAC_IMAGE_CAUSE = 42,      /* byte of TAC_CAUSE bits */
     TAC_IMAGE_MISSED = 43,     /* byte: missed page */
-    TAC_IMAGE_TLB = 44         /* TAC_TLB_ENTRIES of TAC_TLB_ENTRY_BYTES each */
+    TAC_IMAGE_TLB = 44,        /* TAC_TLB_ENTRIES of TAC_TLB_ENTRY_BYTES each */
+    TAC_IMAGE_TIMER0 = 68,     /* TAC_TIMERS of TAC_TIMER_BYTES each */
+    TAC_IMAGE_TIMER1 = 76
 };
 
 /* FLAG: 0000 0000 EPI0 VCSZ. */
@@ -89,6 +91,20 @@ enum {
     TAC_TLB_FRAME = 0x00FF
 };
 
+/* A timer is four words, at these offsets from TAC_IMAGE_TIMER0 or TAC_IMAGE_TIMER1. It counts the milliseconds that a card lets pass
+ * (TAC_COMMAND_TIME), and no others. */
+#define TAC_TIMERS 2
+#define TAC_TIMER_BYTES 8
+#define TAC_TIMER_COUNT 0    /* word: below the period; 0 if that is 0 */
+#define TAC_TIMER_PERIOD 2   /* word: the count that fires, and returns to 0; a period of 0 never fires */
+#define TAC_TIMER_CONTROL 4  /* word of TAC_CONTROL bits, the others 0 */
+#define TAC_TIMER_FIRED 6    /* word: 0, or 1 from firing until IN of 02h (Timer0) or 06h (Timer1) clears it */
+
+enum {
+    TAC_CONTROL_INTERRUPT = 0x8000,  /* firing raises line 0 (Timer0) or 1 (Timer1) */
+    TAC_CONTROL_START = 0x0001       /* the timer counts */
+};
+
 /* Offsets in the report of a run. */
 enum {
     TAC_REPORT_ENDING = 0,  /* byte: a TAC_ENDING */
@@ -107,7 +123,7 @@ enum {
     TAC_ENDING_LOST = 3      /* the kernel could not be entered: SSP was odd */
 };
 
-/* Numbers entered: 0 to 9 are the interrupts. */
+/* Numbers entered: 0 to 9 are the interrupts, 0 and 1 those of Timer0 and Timer1. */
 enum {
     TAC_NUMBER_MISS = 10,       /* no TLB entry has the page */
     TAC_NUMBER_VIOLATION = 11,  /* an odd address, or a right that is not given */
@@ -126,7 +142,8 @@ enum {
     TAC_COMMAND_RUN = 4,       /* allowance (2) */
     TAC_COMMAND_ENTRY = 5,     /* TLB entry 0 to 7, its bits (3) */
     TAC_COMMAND_MMU = 6,       /* 0 or 1 */
-    TAC_COMMAND_FLAG = 7       /* FLAG (2) */
+    TAC_COMMAND_FLAG = 7,      /* FLAG (2) */
+    TAC_COMMAND_TIME = 8       /* milliseconds (2) that pass for each timer that is started, whatever the machine's condition */
 };
 
 /* Refusals. A call that is refused leaves memory, image and report as they were. */
@@ -134,7 +151,7 @@ enum {
     TAC_GOOD = 0,
     TAC_MEMORY_LENGTH = 1,  /* memory is not TAC_MEMORY_BYTES */
     TAC_IMAGE_LENGTH = 2,   /* the image is not TAC_IMAGE_BYTES */
-    TAC_IMAGE_FIELD = 3,    /* FLAG, pending, MMU, condition, cause or a TLB entry's zeros are beyond their values */
+    TAC_IMAGE_FIELD = 3,    /* FLAG, pending, MMU, condition, cause, a TLB entry's zeros or a timer, started or not, are beyond their values */
     TAC_CARD_LENGTH = 4,    /* the card is over TAC_CARD_BYTES */
     TAC_CARD_UNKNOWN = 5,   /* the first bad command: an unknown byte */
     TAC_CARD_SHORT = 6,     /* its operands are cut short */

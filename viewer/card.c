@@ -1,16 +1,10 @@
 #include "card.h"
 
-/* A call of tac_card with a report of no bytes: a card with a run is refused for that, and changes nothing. */
-static uint64_t card_call(struct machine *machine, const uint8_t *bytes, size_t length)
-{
-    return tac_card(machine->memory, sizeof machine->memory, machine->image, sizeof machine->image, bytes, length, NULL, 0);
-}
-
 uint64_t card_test(const struct card *card)
 {
     static struct machine scratch;
     machine_reset(&scratch);
-    uint64_t answer = card_call(&scratch, card->bytes, card->length);
+    uint64_t answer = machine_commands(&scratch, card->bytes, card->length);
     return TAC_REFUSAL(answer) == TAC_REPORT_LENGTH ? 0 : answer;
 }
 
@@ -22,7 +16,7 @@ enum fed card_feed(struct card *card, struct machine *machine)
     if (card->at == card->length)
         return FED_END;
     do /* the library knows where the command ends */
-        answer = card_call(machine, command, ++length);
+        answer = machine_commands(machine, command, ++length);
     while (TAC_REFUSAL(answer) == TAC_CARD_SHORT);
     card->at += length;
     if (TAC_REFUSAL(answer) != TAC_REPORT_LENGTH)

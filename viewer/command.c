@@ -156,6 +156,21 @@ static bool do_set(struct line *line)
     return set_by_words(&line->session->machine, line->count, line->words, line->why);
 }
 
+static bool do_time(struct line *line)
+{
+    unsigned long milliseconds;
+    if (line->count == 0)
+        return bad(line, "", "a number of milliseconds is missing");
+    if (!decimal_number(line->words[0], MILLISECONDS_MOST, &milliseconds))
+        return bad(line, line->words[0], " is no number of milliseconds, 0 to 65535");
+    line->used++;
+    if (!take_end(line))
+        return false;
+    machine_pass(&line->session->machine, (unsigned)milliseconds);
+    show_timers(&line->session->machine);
+    return true;
+}
+
 static bool do_next(struct line *line)
 {
     unsigned long count = 1;
@@ -216,6 +231,7 @@ static const struct command commands[] = {
     {"dump", "d", "[l|p] ADDR [N]", "N bytes of memory", do_dump},
     {"list", "l", "[l|p] [ADDR [N]]", "N instructions, disassembled", do_list},
     {"set", "", "WHAT VALUE", "sets what a card can set: " SET_WORDS, do_set},
+    {"time", "t", "N", "N milliseconds pass, 0 to 65535; then lines and timers", do_time},
     {"next", "n", "[N]", "N commands of the card; a run is done to its end", do_next},
     {"rest", "r", "", "the rest of the card", do_rest},
     {"trace", "", "on|off", "a line for each step", do_trace},
@@ -230,8 +246,9 @@ void print_commands(void)
         const struct command *command = &commands[k];
         printf("  %-8s %-2s %-19s %s\n", command->name, command->letter, command->operands, command->help);
     }
-    printf("Addresses and values are hexadecimal, counts decimal. An address is taken as the machine stands (translated if the MMU is\n"
-           "on and P=0), after l as by a user program (translated if the MMU is on), after p as physical. LIMIT is %d without a word.\n",
+    printf("Addresses and values are hexadecimal, counts and milliseconds decimal. An address is taken as the machine stands (translated\n"
+           "if the MMU is on and P=0), after l as by a user program (translated if the MMU is on), after p as physical. LIMIT is %d\n"
+           "without a word. Time passes only by time and by command 08 of a card.\n",
            LIMIT);
 }
 

@@ -1,4 +1,4 @@
-/* The viewer's commands. Addresses, bytes and words are hexadecimal, counts decimal. */
+/* The viewer's commands. Addresses, bytes and words are hexadecimal, counts and milliseconds decimal. */
 #ifndef VIEWER_COMMAND_H
 #define VIEWER_COMMAND_H
 

@@ -61,7 +61,9 @@ void entry_words(const struct machine *machine, unsigned number, char *text, siz
     int used = snprintf(text, room, "%u: ", number);
     text += used;
     room -= (size_t)used;
-    if (number < TAC_NUMBER_MISS)
+    if (number < TAC_TIMERS)
+        snprintf(text, room, "interrupt, the line of Timer%u", number);
+    else if (number < TAC_NUMBER_MISS)
         snprintf(text, room, "interrupt");
     else if (number == TAC_NUMBER_MISS)
         snprintf(text, room, "no entry for page %02Xh", fault.missed);

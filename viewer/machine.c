@@ -63,6 +63,18 @@ struct report machine_run(struct machine *machine, unsigned allowance)
     return report_in(report);
 }
 
+uint64_t machine_commands(struct machine *machine, const uint8_t *bytes, size_t length)
+{
+    return tac_card(machine->memory, sizeof machine->memory, machine->image, sizeof machine->image, bytes, length, NULL, 0);
+}
+
+void machine_pass(struct machine *machine, unsigned milliseconds)
+{
+    uint8_t card[3] = {TAC_COMMAND_TIME};
+    put_word(card, 1, milliseconds);
+    must_be_good(machine_commands(machine, card, sizeof card), "milliseconds");
+}
+
 struct fault machine_fault(const struct machine *machine)
 {
     uint64_t answer = tac_fault(machine->image, sizeof machine->image);
@@ -77,6 +89,11 @@ uint32_t machine_entry(const struct machine *machine, int entry)
 {
     const uint8_t *bytes = machine->image + TAC_IMAGE_TLB + TAC_TLB_ENTRY_BYTES * entry;
     return (uint32_t)bytes[0] << TAC_TLB_PAGE_SHIFT | word_in(bytes, 1);
+}
+
+const uint8_t *machine_timer(const struct machine *machine, int timer)
+{
+    return machine->image + TAC_IMAGE_TIMER0 + TAC_TIMER_BYTES * timer;
 }
 
 int machine_serving(const struct machine *machine, unsigned address)

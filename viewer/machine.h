@@ -37,6 +37,14 @@ uint64_t machine_test(const struct machine *machine);
 
 struct report machine_run(struct machine *machine, unsigned allowance);
 
+/* The answer of tac_card to commands of a card, with a report of no bytes: a run among them is refused for that, and changes nothing. */
+uint64_t machine_commands(struct machine *machine, const uint8_t *bytes, size_t length);
+
+#define MILLISECONDS_MOST 0xFFFF
+
+/* Lets milliseconds pass, up to MILLISECONDS_MOST. */
+void machine_pass(struct machine *machine, unsigned milliseconds);
+
 /* The answer of tac_fault: the machine keeps its cause. */
 struct fault machine_fault(const struct machine *machine);
 
@@ -44,6 +52,9 @@ unsigned machine_pc(const struct machine *machine);
 
 /* An entry of the TLB, all its 24 bits. */
 uint32_t machine_entry(const struct machine *machine, int entry);
+
+/* The bytes of Timer0 or Timer1. */
+const uint8_t *machine_timer(const struct machine *machine, int timer);
 
 /* The entry that serves the page of an address, or -1. */
 int machine_serving(const struct machine *machine, unsigned address);

@@ -88,8 +88,7 @@ bool set_by_words(struct machine *machine, int count, char *const *words, char *
     }
     if (same(words[0], "lines")) /* the input byte stays */
         made.bytes[made.length++] = machine->image[TAC_IMAGE_INPUT];
-    uint64_t answer =
-        tac_card(machine->memory, sizeof machine->memory, machine->image, sizeof machine->image, made.bytes, made.length, NULL, 0);
+    uint64_t answer = machine_commands(machine, made.bytes, made.length);
     if (TAC_REFUSAL(answer) != TAC_GOOD)
         snprintf(why, WHY_BYTES, "refused %u: %s", TAC_REFUSAL(answer), refusal_words(TAC_REFUSAL(answer)));
     return TAC_REFUSAL(answer) == TAC_GOOD;

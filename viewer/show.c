@@ -6,13 +6,13 @@
 #include <stdio.h>
 #include <string.h>
 
-/* A field of the image that is a word or a byte. */
+/* A field of the image, or of a timer in it, that is a word or a byte. */
 struct field {
     const char *name;
     int at, bytes;
 };
 
-/* All but PC and the TLB. */
+/* All but PC, the TLB and the timers. */
 static const struct field fields[] = {
     {"G0", TAC_IMAGE_G0, 2},
     {"G1", TAC_IMAGE_G0 + 2, 2},
@@ -40,6 +40,13 @@ static const struct field fields[] = {
     {"missed", TAC_IMAGE_MISSED, 1},
 };
 
+static const struct field timer_fields[] = {
+    {"count", TAC_TIMER_COUNT, 2},
+    {"period", TAC_TIMER_PERIOD, 2},
+    {"control", TAC_TIMER_CONTROL, 2},
+    {"fired", TAC_TIMER_FIRED, 2},
+};
+
 static const char *const conditions[] = {"running", "halted", "lost"};
 
 /* The bits of a byte, the upper first: a letter where one is set. */
@@ -48,6 +55,8 @@ static void print_letters(unsigned byte, const char *letters)
     for (int bit = 7; bit >= 0; bit--)
         putchar((byte >> bit & 1) != 0 ? letters[7 - bit] : '-');
 }
+
+static const char *on_or_off(bool on) { return on ? "on" : "off"; }
 
 static void print_registers(const uint8_t *image)
 {
@@ -61,7 +70,7 @@ static void print_registers(const uint8_t *image)
 
 static void print_tlb(const struct machine *machine)
 {
-    printf("MMU %s\n", machine->image[TAC_IMAGE_MMU] != 0 ? "on" : "off");
+    printf("MMU %s\n", on_or_off(machine->image[TAC_IMAGE_MMU] != 0));
     for (int k = 0; k < TAC_TLB_ENTRIES; k++) {
         uint32_t entry = machine_entry(machine, k);
         printf("  entry %d  page %02X  ", k, (unsigned)(entry >> TAC_TLB_PAGE_SHIFT));
@@ -78,6 +87,23 @@ static void print_lines(const uint8_t *image)
         if ((pending >> line & 1) != 0)
             printf(" %u", line);
     printf("%s\n", pending == 0 ? " none" : "");
+}
+
+/* Count and period are decimal, as the milliseconds of a command. */
+static void print_timer(const struct machine *machine, int timer)
+{
+    const uint8_t *bytes = machine_timer(machine, timer);
+    unsigned control = word_in(bytes, TAC_TIMER_CONTROL);
+    printf("Timer%d %-3s  interrupt %-3s  count %5u  period %5u ms  %s\n", timer, on_or_off((control & TAC_CONTROL_START) != 0),
+           on_or_off((control & TAC_CONTROL_INTERRUPT) != 0), word_in(bytes, TAC_TIMER_COUNT), word_in(bytes, TAC_TIMER_PERIOD),
+           word_in(bytes, TAC_TIMER_FIRED) != 0 ? "fired" : "not fired");
+}
+
+void show_timers(const struct machine *machine)
+{
+    print_lines(machine->image);
+    for (int k = 0; k < TAC_TIMERS; k++)
+        print_timer(machine, k);
 }
 
 void show_fault(const struct machine *machine)
@@ -141,7 +167,7 @@ void show_machine(const struct machine *machine)
 {
     print_registers(machine->image);
     print_tlb(machine);
-    print_lines(machine->image);
+    show_timers(machine);
     show_fault(machine);
     print_round_pc(machine);
 }
@@ -180,19 +206,32 @@ void show_report(const struct report *report)
     printf(" %u %lu %04X %04X\n", report->steps, (unsigned long)report->states, report->pc, report->flag);
 }
 
+/* A field that differs, with what stands in front of its name. */
+static void print_changed_field(const char *front, const struct field *field, const uint8_t *old, const uint8_t *new)
+{
+    if (field->bytes == 2 && word_in(old, field->at) != word_in(new, field->at))
+        printf("  %s%s %04X>%04X", front, field->name, word_in(old, field->at), word_in(new, field->at));
+    if (field->bytes == 1 && old[field->at] != new[field->at])
+        printf("  %s%s %02X>%02X", front, field->name, old[field->at], new[field->at]);
+}
+
+static void print_changed_timer(const struct machine *before, const struct machine *after, int timer)
+{
+    char front[16];
+    snprintf(front, sizeof front, "Timer%d ", timer);
+    for (size_t k = 0; k < sizeof timer_fields / sizeof *timer_fields; k++)
+        print_changed_field(front, &timer_fields[k], machine_timer(before, timer), machine_timer(after, timer));
+}
+
 static void print_changed_fields(const struct machine *before, const struct machine *after)
 {
-    const uint8_t *old = before->image, *new = after->image;
-    for (size_t k = 0; k < sizeof fields / sizeof *fields; k++) {
-        const struct field *field = &fields[k];
-        if (field->bytes == 2 && word_in(old, field->at) != word_in(new, field->at))
-            printf("  %s %04X>%04X", field->name, word_in(old, field->at), word_in(new, field->at));
-        if (field->bytes == 1 && old[field->at] != new[field->at])
-            printf("  %s %02X>%02X", field->name, old[field->at], new[field->at]);
-    }
+    for (size_t k = 0; k < sizeof fields / sizeof *fields; k++)
+        print_changed_field("", &fields[k], before->image, after->image);
     for (int k = 0; k < TAC_TLB_ENTRIES; k++)
         if (machine_entry(before, k) != machine_entry(after, k))
             printf("  entry %d %06lX>%06lX", k, (unsigned long)machine_entry(before, k), (unsigned long)machine_entry(after, k));
+    for (int k = 0; k < TAC_TIMERS; k++)
+        print_changed_timer(before, after, k);
 }
 
 static void print_changed_memory(const struct machine *before, const struct machine *after)

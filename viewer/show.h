@@ -4,11 +4,14 @@
 
 #include "machine.h"
 
-/* Registers, FLAG, MMU and TLB, lines, bytes, condition, fault record, and the instructions round PC. */
+/* Registers, FLAG, MMU and TLB, lines, bytes, timers, condition, fault record, and the instructions round PC. */
 void show_machine(const struct machine *machine);
 
 /* The fault record, in a line. */
 void show_fault(const struct machine *machine);
+
+/* Input and output byte, pending lines, and a line for each timer. */
+void show_timers(const struct machine *machine);
 
 void show_memory(const struct machine *machine, enum space space, unsigned address, unsigned bytes);
 void show_instructions(const struct machine *machine, enum space space, unsigned address, unsigned count);

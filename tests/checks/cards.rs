@@ -4,6 +4,7 @@ use crate::common::*;
 use tac_tests::card::{self, bench, commands, Command};
 use tac_tests::emulator::*;
 use tac_tests::image;
+use tac_tests::timer::{Timer, INTERRUPT, START};
 
 const WORKED: [u8; 18] =
     [0x01, 0x00, 0x06, 0xF0, 0x02, 0x0D, 0x10, 0x00, 0x04, 0x00, 0x0A, 0x01, 0x00, 0x00, 0xFF, 0x04, 0x00, 0x02];
@@ -49,7 +50,7 @@ fn worked_card_in_bytes() {
 fn every_command() {
     let list = commands(&[
         1, 0x12, 0x34, 0x56, 2, 15, 0xAB, 0xCD, 3, 0x03, 0xFF, 0x99, 4, 0x01, 0x02, 5, 7, 0xFF, 0x9F, 0xFF, 6, 1, 7, 0,
-        0xEF,
+        0xEF, 8, 0x03, 0xE8,
     ]);
     let expected = vec![
         Command::Byte { address: 0x1234, value: 0x56 },
@@ -59,6 +60,7 @@ fn every_command() {
         Command::Entry { number: 7, bits: 0xFF_9FFF },
         Command::Mmu { on: true },
         Command::Flag { value: 0xEF },
+        Command::Time { milliseconds: 1_000 },
     ];
     assert_eq!(list, Ok(expected));
 }
@@ -75,6 +77,8 @@ fn image_round_trip() {
     for k in 0..8 {
         bytes[image::TLB + 3 * k + 1] &= 0x9F;
     }
+    bytes[68..76].copy_from_slice(&[0x12, 0x34, 0x56, 0x78, 0x80, 0x00, 0x00, 0x01]);
+    bytes[76..84].copy_from_slice(&[0x00, 0x09, 0x9A, 0xBC, 0x80, 0x01, 0x00, 0x00]);
     let memory = vec![0; MEMORY];
     assert_eq!(image::test(&memory, &bytes), Ok(()));
     let m = image::read(memory, &bytes);
@@ -84,6 +88,8 @@ fn image_round_trip() {
     assert_eq!((m.input, m.output, m.missed), (bytes[36], bytes[37], bytes[43]));
     assert_eq!(m.violation, word(&bytes, 40));
     assert_eq!(m.tlb[7], u32::from_be_bytes([0, bytes[65], bytes[66], bytes[67]]));
+    assert_eq!(m.timers[0], Timer { count: 0x1234, period: 0x5678, control: INTERRUPT, fired: true });
+    assert_eq!(m.timers[1], Timer { count: 9, period: 0x9ABC, control: INTERRUPT | START, fired: false });
 }
 
 fn word(bytes: &[u8], at: usize) -> u16 {

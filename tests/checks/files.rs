@@ -68,8 +68,8 @@ fn stored_is_varied() {
     ["spent", "halted", "lost"].iter().for_each(|ending| begins(format!("{ending} - ")));
 }
 
-/// Listings that were worked out by hand from document 01.
-const BY_HAND: [(&str, &str); 24] = [
+/// Listings that were worked out by hand from documents 01 and 02.
+const BY_HAND: &[(&str, &str)] = &[
     ("the worked card", "runs 2\nentered 15 4 21 0008 0040\nhalted - 1 5 0002 0040\n"),
     ("an empty card", "runs 0\n"),
     // ADD in mode 5 and a jump; PC goes from FFFEh to 0000h, then to G0.
@@ -106,6 +106,89 @@ const BY_HAND: [(&str, &str); 24] = [
         "sums, differences and a shift by 0",
         "runs 3\nspent - 1 4 0002 004A\nspent - 1 4 0004 0046\nspent - 1 5 0006 0046\n",
     ),
+    // 9 ms; two IN and a jump to the first value. 1 ms more; the same; a jump to the second value.
+    (
+        "08: Timer0 fires at its period, IN clears fired",
+        "runs 4\nspent - 4 22 0210 0040\nspent - 3 19 0000 0040\nspent - 3 19 8000 0040\nspent - 1 5 0000 0040\n",
+    ),
+    (
+        "08: Timer1 counts 7, and 5 ms later 2",
+        "runs 3\nspent - 4 22 0210 0040\nspent - 2 12 0007 0040\nspent - 2 12 0002 0040\n",
+    ),
+    // 9 ms; two jumps. 1 ms more; the entry; IN, RETI, a jump; three jumps.
+    (
+        "08: an interrupt of Timer0",
+        "runs 5\nspent - 4 22 0210 00C0\nspent - 2 10 0210 00C0\nentered 0 1 12 0210 00C0\nspent - 3 21 0210 00C0\n\
+         spent - 3 15 0210 00C0\n",
+    ),
+    (
+        "08: an interrupt of Timer1",
+        "runs 5\nspent - 4 22 0210 00C0\nspent - 2 10 0210 00C0\nentered 1 1 12 0210 00C0\nspent - 3 21 0210 00C0\n\
+         spent - 3 15 0210 00C0\n",
+    ),
+    (
+        "08: 65,535 firings of Timer1, one interrupt",
+        "runs 3\nspent - 4 22 0210 00C0\nentered 1 1 12 0210 00C0\nspent - 3 19 0210 00C0\n",
+    ),
+    (
+        "08: another interrupt of Timer0, fired still set",
+        "runs 4\nspent - 4 22 0210 00C0\nentered 0 1 12 0210 00C0\nspent - 2 14 0210 00C0\nentered 0 1 12 0210 00C0\n",
+    ),
+    (
+        "08: an interrupt of Timer1 waits while E=0",
+        "runs 3\nspent - 4 22 0210 0040\nspent - 3 9 0216 0040\nentered 1 1 12 0216 00C0\n",
+    ),
+    (
+        "08: Timer0 with period 0",
+        "runs 3\nspent - 4 22 0210 00C0\nspent - 3 19 0000 00C0\nspent - 1 5 0000 00C0\n",
+    ),
+    // IN of the count and of fired, and a jump to the first; a jump to the second.
+    (
+        "08: Timer1 without its interrupt",
+        "runs 3\nspent - 4 22 0210 00C0\nspent - 3 19 0000 00C0\nspent - 1 5 8000 00C0\n",
+    ),
+    // The count behind 65,534 ms and behind 65,535; then fired.
+    (
+        "08: Timer1 with period 65,535",
+        "runs 4\nspent - 4 22 0210 0040\nspent - 2 12 FFFE 0040\nspent - 2 12 0000 0040\nspent - 2 12 8000 0040\n",
+    ),
+    // 22 states and 65,531 jumps; 1 ms; the entry.
+    (
+        "steps let no time pass for Timer0",
+        "runs 2\nspent - 65535 327677 0210 00C0\nentered 0 1 12 0210 00C0\n",
+    ),
+    // 7 ms; stopped; 100 ms; started, and the count is shown; 2 ms, 1 ms.
+    (
+        "08: Timer1 stopped and started again",
+        "runs 5\nspent - 4 22 0210 0040\nspent - 2 10 0216 0040\nspent - 4 22 0007 0040\nspent - 2 12 0009 0040\n\
+         spent - 2 12 0000 0040\n",
+    ),
+    (
+        "OUT of Timer0's period zeroes the count and keeps fired",
+        "runs 3\nspent - 4 22 0210 0040\nspent - 5 29 0000 0040\nspent - 1 5 8000 0040\n",
+    ),
+    (
+        "OUT of Timer1's control keeps the count and fired",
+        "runs 3\nspent - 4 22 0210 0040\nspent - 5 29 0007 0040\nspent - 1 5 8000 0040\n",
+    ),
+    (
+        "08 on a halted machine with Timer1: it stays halted",
+        "runs 2\nhalted - 5 27 0212 00C0\nhalted - 0 0 0212 00C0\n",
+    ),
+    ("08 on a lost machine: it stays lost", "runs 2\nlost - 5 22 0210 00C0\nlost - 0 0 0210 00C0\n"),
+    (
+        "Timer0's ports for a user with I/O privilege",
+        "runs 2\nspent - 4 22 1210 0020\nspent - 2 12 8000 0020\n",
+    ),
+    ("13: OUT of 06h of a user", "runs 1\nentered 13 1 12 1200 0000\n"),
+    // 10 turns of IN, CMP and a jump, again at 499 ms; at 500 IN, CMP, no jump, HALT.
+    ("08: a pause of 500 ms", "runs 3\nspent - 34 182 0210 0041\nspent - 30 160 0210 0041\nhalted - 4 20 021C 0042\n"),
+    // Line 0; RETI and line 1; RETI and two jumps; a millisecond without a firing; one with.
+    (
+        "08 for both timers: line 0 before line 1",
+        "runs 6\nspent - 8 44 0320 00C0\nentered 0 1 12 0320 00C0\nentered 1 2 21 0320 00C0\nspent - 3 19 0320 00C0\n\
+         spent - 1 5 0320 00C0\nentered 1 1 12 0320 00C0\n",
+    ),
     // NO and the fault; two IN and a jump to the address; a jump to the cause.
     ("11: a read without right", "runs 3\nentered 11 2 15 1202 0000\nspent - 3 19 1580 0040\nspent - 1 5 0001 0040\n"),
     // The fault; two IN and a jump to the first value; a jump to the second.
@@ -141,6 +224,8 @@ const BY_HAND: [(&str, &str); 24] = [
         "runs 4\nspent - 100 400 00C8 0040\nspent - 409 1636 03FA 0040\nhalted - 2 9 03FE 0040\nhalted - 0 0 03FE 0040\n",
     ),
     ("refused 6: register 16, cut short", "refused 6 0\n"),
+    ("refused 6: 08 without its last 2", "refused 6 0\n"),
+    ("refused 6: a run, 08 without its last 1", "refused 6 3\n"),
     // 1,023 commands of 4 bytes stand in front.
     ("refused 6: the last command of a long card", "refused 6 4092\n"),
 ];
@@ -148,7 +233,7 @@ const BY_HAND: [(&str, &str); 24] = [
 #[test]
 fn stored_listings_by_hand() {
     let cases = stored::all();
-    for (name, expected) in BY_HAND {
+    for &(name, expected) in BY_HAND {
         let case = cases.iter().find(|case| case.name == name).unwrap_or_else(|| panic!("no case {name}"));
         assert_eq!(case.listing(), expected, "{name}");
     }
@@ -185,7 +270,7 @@ fn example_cards() {
         assert_eq!(card::bench(&card), text(&format!("examples/{name}.txt")), "{name}");
         names.push(name);
     }
-    for name in ["worked", "pages", "user", "fence", "winder", "cause", "refused"] {
+    for name in ["worked", "pages", "user", "fence", "winder", "cause", "pause", "refused"] {
         assert!(names.iter().any(|found| found == name), "no example {name}");
     }
 }

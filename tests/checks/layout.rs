@@ -11,7 +11,7 @@ use tac_tests::{image, report};
 type Numbers = BTreeMap<String, usize>;
 
 /// The image's fields as this package has them.
-const IMAGE: [(&str, usize); 14] = [
+const IMAGE: [(&str, usize); 16] = [
     ("REGS", image::REGS),
     ("SSP", image::SSP),
     ("USP", image::USP),
@@ -26,7 +26,13 @@ const IMAGE: [(&str, usize); 14] = [
     ("CAUSE", image::CAUSE),
     ("MISSED", image::MISSED),
     ("TLB", image::TLB),
+    ("TIMER0", image::TIMERS),
+    ("TIMER1", image::TIMERS + image::TIMER),
 ];
+
+/// A timer's.
+const TIMER: [(&str, usize); 4] =
+    [("COUNT", image::COUNT), ("PERIOD", image::PERIOD), ("CONTROL", image::CONTROL), ("FIRED", image::FIRED)];
 
 /// The report's.
 const REPORT: [(&str, usize); 6] = [
@@ -82,19 +88,26 @@ fn header() {
         ("TAC_REPORT_LENGTH", 8),
     ];
     assert_eq!(enum_with(&header, "TAC_GOOD"), numbers(&refusals));
-    let defined = |line: &str| match line.split_whitespace().collect::<Vec<&str>>()[..] {
-        ["#define", name, number, ..] if name.ends_with("_BYTES") => Some((name.to_string(), number.parse().ok()?)),
-        _ => None,
-    };
-    let sizes: Numbers = header.lines().filter_map(defined).collect();
     let own = [
         ("TAC_MEMORY_BYTES", MEMORY),
         ("TAC_IMAGE_BYTES", image::IMAGE),
         ("TAC_REPORT_BYTES", report::REPORT),
         ("TAC_CARD_BYTES", LONGEST),
         ("TAC_TLB_ENTRY_BYTES", 3),
+        ("TAC_TIMER_BYTES", image::TIMER),
     ];
-    assert_eq!(sizes, numbers(&own));
+    assert_eq!(defined(&header, |name| name.ends_with("_BYTES")), numbers(&own));
+    let timer = defined(&header, |name| name.starts_with("TAC_TIMER_") && !name.ends_with("_BYTES"));
+    assert_eq!(timer, in_header("TAC_TIMER_", &TIMER));
+}
+
+/// `#define NAME N` for these names.
+fn defined(header: &str, wanted: fn(&str) -> bool) -> Numbers {
+    let definition = |line: &str| match line.split_whitespace().collect::<Vec<&str>>()[..] {
+        ["#define", name, number, ..] if wanted(name) => Some((name.to_string(), number.parse().ok()?)),
+        _ => None,
+    };
+    header.lines().filter_map(definition).collect()
 }
 
 /// The constants in the code of a crate: `pub const NAME: usize = N;`.
@@ -106,11 +119,11 @@ fn in_code(folder: &str) -> Numbers {
     lines(folder, "rt").iter().filter_map(|line| constant(line)).collect()
 }
 
-/// The numbers in the definitions of a crate: `sspAt = 26` and `imageSize = 68`, as SSP and IMAGE.
+/// The numbers in the definitions of a crate: `sspAt = 26`, `imageSize = 84` and `periodIn = 2`, as SSP, IMAGE and PERIOD.
 fn in_definitions(folder: &str) -> Numbers {
     let definition = |line: &str| {
         let (name, number) = assigned(line)?;
-        let name = name.strip_suffix("At").or_else(|| name.strip_suffix("Size"))?;
+        let name = ["At", "Size", "In"].iter().find_map(|end| name.strip_suffix(end))?;
         Some((name.to_uppercase(), number))
     };
     lines(folder, "antt").iter().filter_map(|line| definition(line)).collect()
@@ -137,9 +150,12 @@ fn held(place: &str, found: &Numbers, list: &[(&str, usize)]) -> bool {
 #[test]
 fn library() {
     let image = [&IMAGE[..], &[("IMAGE", image::IMAGE)]].concat();
-    let code = held("crates/layout/src", &in_code("crates/layout/src"), &image);
-    let definitions = held("crates/layout/specs", &in_definitions("crates/layout/specs"), &image);
-    assert!(code || definitions, "crates/layout names no offset");
+    let (code, definitions) = (in_code("crates/layout/src"), in_definitions("crates/layout/specs"));
+    for list in [&image[..], &TIMER] {
+        let code = held("crates/layout/src", &code, list);
+        let definitions = held("crates/layout/specs", &definitions, list);
+        assert!(code || definitions, "crates/layout names no offset of {list:?}");
+    }
     // The report's size is used by others, so the code may name it where it does not name the offsets.
     let size = [("REPORT", report::REPORT)];
     let code = in_code("crates/report/src");

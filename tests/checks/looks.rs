@@ -37,7 +37,10 @@ fn full_image() -> [u8; IMAGE] {
     bytes[image::FLAG..image::FLAG + 2].copy_from_slice(&[0x00, 0xEF]);
     bytes[image::PENDING] = 0x03;
     (bytes[image::MMU], bytes[image::CONDITION], bytes[image::CAUSE]) = (1, 2, 3);
-    bytes[image::TLB..].iter_mut().skip(1).step_by(3).for_each(|byte| *byte &= 0x9F);
+    bytes[image::TLB..image::TIMERS].iter_mut().skip(1).step_by(3).for_each(|byte| *byte &= 0x9F);
+    for timer in bytes[image::TIMERS..].chunks_mut(image::TIMER) {
+        timer[image::CONTROL..].copy_from_slice(&[0x80, 0x01, 0x00, 0x01]);
+    }
     bytes
 }
 

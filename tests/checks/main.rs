@@ -12,3 +12,4 @@ mod refusals;
 mod replay;
 mod rulings;
 mod scenarios;
+mod timers;

@@ -49,6 +49,25 @@ fn leaks_are_seen() {
     assert!(failed > 5, "{failed}");
 }
 
+/// An emulator whose runs let time pass: the check notices, though both runs are alike.
+#[test]
+fn ticking_runs_are_seen() {
+    fn ticking(memory: &mut [u8], image: &mut [u8], allowance: u16, report: &mut [u8]) -> u64 {
+        let answer = card::run(memory, image, allowance, report);
+        let mut machine = image::read(Vec::new(), image);
+        machine.pass(1);
+        image.copy_from_slice(&image::write(&machine));
+        answer
+    }
+    let (mut maker, mut pair) = (Maker::new(), Pair::empty());
+    let (mut a, mut b) = (After::empty(), After::empty());
+    let failed = (0..20).filter(|index| {
+        maker.pair(&mut Rng::of_case(12, 2, *index), &mut pair);
+        isolation::check(ticking, &pair, &mut a, &mut b).is_err_and(|what| what == "a timer changed")
+    });
+    assert!(failed.count() > 5);
+}
+
 /// Runs and cards of all endings and refusals are made, and looks that give each cause.
 #[test]
 fn cases_are_varied() {

@@ -2,6 +2,7 @@
 //! tried as well.
 
 use crate::common::*;
+use tac_tests::assemble::put_words;
 use tac_tests::card;
 use tac_tests::case::{Call, Case};
 use tac_tests::image;
@@ -58,7 +59,7 @@ fn memory_length() {
 #[test]
 fn image_length() {
     for call in four_calls() {
-        for length in [0, 1, 67, 69, 84, 200] {
+        for length in [0, 1, 68, 83, 85, 200] {
             let mut case = good(call.clone());
             case.image.resize(length, 0xFF);
             case.report.clear();
@@ -84,7 +85,14 @@ fn image_fields() {
                 38 => mask > 1,
                 39 => mask > 2,
                 42 => mask > 3,
-                44.. if byte % 3 == 0 => mask == 0x40 || mask == 0x20,
+                44..=67 if byte % 3 == 0 => mask == 0x40 || mask == 0x20,
+                // The timers are 0: any count, and what is no control bit or over 1.
+                68.. => match (byte - 68) % 8 {
+                    0 | 1 | 6 => true,
+                    4 => mask != 0x80,
+                    5 | 7 => mask != 0x01,
+                    _ => false,
+                },
                 _ => false,
             };
             assert_eq!(answer(&case) == (3, 0), bad, "byte {byte} mask {mask:02X}");
@@ -101,6 +109,70 @@ fn image_fields() {
     }
 }
 
+/// A good image but for the four words of timer `n`.
+fn with_timer(call: Call, n: usize, words: [u16; 4]) -> Case {
+    let mut case = good(call);
+    put_words(&mut case.image, image::TIMERS + image::TIMER * n, &words);
+    case
+}
+
+/// "Control, fired, a count not below a non-zero period, and a non-zero count with period 0", of both timers, started or not.
+#[test]
+fn timer_fields() {
+    let counts = [
+        (0, 0, true),
+        (1, 0, false),
+        (0x0100, 0, false),
+        (0xFFFF, 0, false),
+        (0, 1, true),
+        (1, 1, false),
+        (2, 1, false),
+        (9, 10, true),
+        (10, 10, false),
+        (11, 10, false),
+        (0x00FF, 0x0100, true),
+        (0x0100, 0x0100, false),
+        (0x0100, 0x00FF, false),
+        (0x7FFF, 0x8000, true),
+        (0x8000, 0x7FFF, false),
+        (0x8000, 0x8000, false),
+        (0xFFFE, 0xFFFF, true),
+        (0xFFFF, 0xFFFF, false),
+    ];
+    let controls = [(0x0000, true), (0x0001, true), (0x8000, true), (0x8001, true)];
+    let beyond = [0x0002, 0x0003, 0x0080, 0x0100, 0x4000, 0x8002, 0xC001, 0x7FFE, 0xFFFF].map(|bits| (bits, false));
+    let fired = [(0, true), (1, true), (2, false), (3, false), (0x0100, false), (0x0101, false), (0x8000, false)];
+    for (call, n) in four_calls().into_iter().flat_map(|call| [(call.clone(), 0), (call, 1)]) {
+        let held = |words: [u16; 4], fits: bool| {
+            let found = answer(&with_timer(call.clone(), n, words));
+            assert_eq!(found != (3, 0), fits, "{call:?}, timer {n}, {words:04X?}: {found:?}");
+        };
+        for (control, exists) in controls.into_iter().chain(beyond) {
+            held([3, 10, control, 1], exists);
+            for (count, period, fits) in counts {
+                held([count, period, control, 0], exists && fits);
+            }
+            for (word, fits) in fired {
+                held([0, 0, control, word], exists && fits);
+            }
+        }
+    }
+}
+
+/// Refusal 3 comes before those of card and report, and behind that of the image's length.
+#[test]
+fn bad_timers_in_order() {
+    for n in 0..2 {
+        let mut case = with_timer(Call::Card(vec![0xFF; 4_097]), n, [10, 10, 0, 0]);
+        case.report.clear();
+        assert_eq!(answer(&case), (3, 0));
+        case.image.truncate(83);
+        assert_eq!(answer(&case), (2, 0));
+        case.memory.truncate(9);
+        assert_eq!(answer(&case), (1, 0));
+    }
+}
+
 #[test]
 fn card_length() {
     let mut case = good(Call::Card(vec![0xFF; 4_097]));
@@ -111,7 +183,7 @@ fn card_length() {
     assert_eq!(card_answer(&[0x06, 0x01].repeat(3_000)), (4, 0));
 }
 
-const GOOD: [&[u8]; 7] = [
+const GOOD: [&[u8]; 8] = [
     &[0x01, 0xFF, 0xFF, 0xFF],
     &[0x02, 0x0F, 0xFF, 0xFF],
     &[0x03, 0x03, 0xFF, 0xFF],
@@ -119,6 +191,7 @@ const GOOD: [&[u8]; 7] = [
     &[0x05, 0x07, 0xFF, 0x9F, 0xFF],
     &[0x06, 0x01],
     &[0x07, 0x00, 0xEF],
+    &[0x08, 0xFF, 0xFF],
 ];
 
 /// Fronts of good commands, so that the bad one stands at several places.
@@ -130,7 +203,7 @@ fn fronts() -> Vec<Vec<u8>> {
 #[test]
 fn unknown_commands() {
     for front in fronts() {
-        for byte in (0..=255).filter(|b| !(1..=7).contains(b)) {
+        for byte in (0..=255).filter(|b| !(1..=8).contains(b)) {
             for tail in [&[][..], &[0x06, 0x01], &[0xFF, 0xFF, 0xFF, 0xFF, 0xFF]] {
                 let card = [&front[..], &[byte], tail].concat();
                 assert_eq!(card_answer(&card), (5, front.len() as u64));

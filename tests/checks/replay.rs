@@ -71,7 +71,9 @@ fn cases_as_cards() {
     let calls = [
         Call::Run(9),
         Call::View,
-        Call::Card(vec![0x04, 0x00, 0x01, 0x07, 0x00, 0x00, 0x02, 0x0F, 0x12, 0x00, 0x04, 0x00, 0x09]),
+        Call::Card(vec![
+            0x04, 0x00, 0x01, 0x07, 0x00, 0x00, 0x02, 0x0F, 0x12, 0x00, 0x08, 0x00, 0x09, 0x04, 0x00, 0x09,
+        ]),
     ];
     for call in calls {
         let case = Case { memory: m.memory.clone(), image: image::write(&m).to_vec(), report: vec![0; 24], call };
@@ -94,7 +96,8 @@ fn cases_that_are_no_cards() {
     let good =
         Case { memory: m.memory.clone(), image: image::write(&m).to_vec(), report: vec![0; 12], call: Call::View };
     assert!(as_card(&good).is_some());
-    for (offset, value) in [(37, 1), (39, 1), (40, 1), (42, 1), (43, 1), (33, 0x50)] {
+    let ones = [37, 39, 40, 42, 43, 71, 73, 75, 79, 81, 83].map(|offset| (offset, 1));
+    for (offset, value) in ones.into_iter().chain([(33, 0x50)]) {
         let mut case = good.clone();
         case.image[offset] = value;
         assert_eq!(as_card(&case), None, "{offset}");
@@ -110,4 +113,5 @@ fn cases_that_are_no_cards() {
     let case = Case { memory: vec![0; m.memory.len()], image, call: bad, ..good };
     assert_eq!(as_card(&case), Some(vec![0x06, 0x01, 0x09]));
     assert_eq!(card_lines(&[0x06, 0x01, 0x09]), "06 01\n09\n");
+    assert_eq!(card_lines(&[0x08, 0x00, 0x0A, 0x04, 0x00, 0x01, 0x08, 0x00]), "08 00 0A\n04 00 01\n08 00\n");
 }

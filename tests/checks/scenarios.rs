@@ -9,11 +9,12 @@ use tac_tests::emulator::*;
 use tac_tests::report::REPORT;
 use tac_tests::rng::Rng;
 use tac_tests::scenarios::SCENARIOS;
+use tac_tests::timer::{Timer, START};
 
 /// Each scenario runs on for a while and comes to what it is about: entries by these numbers, and steps that are spent.
 #[test]
 fn scenarios_come_to_their_point() {
-    let points: [(&str, &[u8]); 24] = [
+    let points: [(&str, &[u8]); 25] = [
         ("first touches", &[11]),
         ("marks without rights", &[11]),
         ("entries changed by OUT", &[10, 11]),
@@ -38,6 +39,7 @@ fn scenarios_come_to_their_point() {
         ("ports in a loop", &[10, 13]),
         ("a stop in a loop", &[10, 11, 12, 13, 14, 15]),
         ("many pages", &[]),
+        ("timers in a loop", &[0, 1, 13]),
     ];
     let mut case = Case::empty();
     for (k, (scenario, (name, numbers))) in SCENARIOS.iter().zip(points).enumerate() {
@@ -430,6 +432,22 @@ fn marks_shown_by_in() {
     m.flag = I;
     ends(&mut m, Ending::Entered(15), 5);
     assert_eq!((m.regs[2], m.regs[3]), (0x9635, 0x9E35));
+}
+
+#[test]
+fn timers_waited_for() {
+    // Turns until Timer1 has fired, which only time between the runs lets it do.
+    let code =
+        [input(2, At(0x06)), cmp(2, Short(0)), jump(ZERO, At(0x1200)), input(3, At(0x04)), input(4, At(0x06)), svc()];
+    let mut m = program(&code);
+    m.flag = I;
+    m.timers[1] = Timer { count: 3, period: 5, control: START, fired: false };
+    assert_eq!(spent(&mut m, 300), 100 * (7 + 4 + 5));
+    m.pass(1);
+    assert_eq!(spent(&mut m, 300), 100 * (7 + 4 + 5));
+    m.pass(2);
+    ends(&mut m, Ending::Entered(15), 6);
+    assert_eq!(m.regs[2..5], [0x8000, 1, 0]);
 }
 
 #[test]

@@ -82,6 +82,12 @@ impl Card {
         let [a, b] = value.to_be_bytes();
         self.raw(&[0x07, a, b])
     }
+
+    /// 08: milliseconds.
+    pub fn time(self, milliseconds: u16) -> Card {
+        let [a, b] = milliseconds.to_be_bytes();
+        self.raw(&[0x08, a, b])
+    }
 }
 
 /// The one or two words of an instruction.

@@ -8,7 +8,7 @@ use crate::report::{report_bytes, REPORT};
 /// The longest good card.
 pub const LONGEST: usize = 4_096;
 
-/// A bench card's commands ("Bench card and its listing").
+/// A bench card's commands ("Bench card and its listing"; document 02, request 2).
 #[derive(Clone, Copy, Debug, PartialEq, Eq)]
 pub enum Command {
     Byte { address: u16, value: u8 },
@@ -18,18 +18,24 @@ pub enum Command {
     Entry { number: u8, bits: u32 },
     Mmu { on: bool },
     Flag { value: u16 },
+    Time { milliseconds: u16 },
+}
+
+/// Bytes of operands behind a command's first byte, if that is known.
+pub fn operands(first: u8) -> Option<usize> {
+    match first {
+        0x01..=0x03 => Some(3),
+        0x04 | 0x07 | 0x08 => Some(2),
+        0x05 => Some(4),
+        0x06 => Some(1),
+        _ => None,
+    }
 }
 
 /// A command of the card at `at` with its length, or the number of the refusal:
 /// unknown byte 5, operands cut short 6, operand beyond its values 7.
 fn command(card: &[u8], at: usize) -> Result<(Command, usize), u8> {
-    let operands = match card[at] {
-        0x01..=0x03 => 3,
-        0x04 | 0x07 => 2,
-        0x05 => 4,
-        0x06 => 1,
-        _ => return Err(5),
-    };
+    let operands = operands(card[at]).ok_or(5)?;
     let o = card.get(at + 1..at + 1 + operands).ok_or(6)?;
     let word = |k: usize| u16::from_be_bytes([o[k], o[k + 1]]);
     let (good, command) = match card[at] {
@@ -42,7 +48,8 @@ fn command(card: &[u8], at: usize) -> Result<(Command, usize), u8> {
             (o[0] <= 7 && bits & ZEROS == 0, Command::Entry { number: o[0], bits })
         }
         0x06 => (o[0] <= 1, Command::Mmu { on: o[0] == 1 }),
-        _ => (word(0) & !FLAG_BITS == 0, Command::Flag { value: word(0) }),
+        0x07 => (word(0) & !FLAG_BITS == 0, Command::Flag { value: word(0) }),
+        _ => (true, Command::Time { milliseconds: word(0) }),
     };
     if !good {
         return Err(7);
@@ -89,6 +96,7 @@ fn act(machine: &mut Machine, command: Command) -> Option<Report> {
         Command::Entry { number, bits } => machine.tlb[number as usize] = bits,
         Command::Mmu { on } => machine.mmu_on = on,
         Command::Flag { value } => machine.flag = value,
+        Command::Time { milliseconds } => machine.pass(milliseconds),
     }
     None
 }

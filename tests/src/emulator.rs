@@ -1,5 +1,8 @@
-//! The TaC machine: registers, MMU, ports, faults, step and run.
+//! The TaC machine: registers, MMU, ports, timers, faults, step and run.
 //! Section names in the comments are those of document 01.
+
+use crate::met;
+use crate::timer::{Timer, INTERRUPT};
 
 /// Bytes of memory.
 pub const MEMORY: usize = 65_536;
@@ -56,6 +59,7 @@ pub struct Machine {
     pub cause: u8,
     pub missed: u8,
     pub tlb: [u32; 8],
+    pub timers: [Timer; 2],
 }
 
 /// What one step did.
@@ -162,6 +166,7 @@ impl Machine {
             cause: 0,
             missed: 0,
             tlb: [0; 8],
+            timers: [Timer::default(); 2],
         }
     }
 
@@ -572,6 +577,7 @@ impl Machine {
 impl Machine {
     fn port_in(&mut self, port: u16) -> u16 {
         match port {
+            0x00..=0x07 => self.timer_in(port),
             0x18 => self.input as u16,
             0x80..=0x9F if port.is_multiple_of(4) => (self.tlb[entry(port)] >> 16) as u16,
             0x80..=0x9F if port % 4 == 2 => self.tlb[entry(port)] as u16,
@@ -585,6 +591,7 @@ impl Machine {
 
     fn port_out(&mut self, port: u16, value: u16) {
         match port {
+            0x00..=0x07 => self.timer_out(port, value),
             0x18 => self.output = value as u8,
             0x80..=0x9F if port.is_multiple_of(4) => {
                 let page = (value as u32 & 0xFF) << 16;
@@ -596,6 +603,49 @@ impl Machine {
             }
             0xA2 => self.mmu_on = value % 2 == 1,
             _ => {}
+        }
+    }
+}
+
+/// The timers (document 02, request 2): Timer0 has the ports 00h and 02h, Timer1 04h and 06h.
+impl Machine {
+    fn timer_in(&mut self, port: u16) -> u16 {
+        let timer = &mut self.timers[port as usize / 4];
+        met::read(port, timer);
+        match port % 4 {
+            0 => timer.count,
+            2 => timer.take_fired(),
+            _ => 0,
+        }
+    }
+
+    fn timer_out(&mut self, port: u16, value: u16) {
+        let timer = &mut self.timers[port as usize / 4];
+        met::written(port, timer, value);
+        match port % 4 {
+            0 => timer.set_period(value),
+            2 => timer.set_control(value),
+            _ => {}
+        }
+    }
+
+    /// Milliseconds, one after the other, in any condition of the machine: "line 0 or 1 is raised if bit 15 is set", at
+    /// each firing.
+    pub fn pass(&mut self, milliseconds: u16) {
+        let (timers, pending) = (self.timers, self.pending);
+        let mut firings = [0; 2];
+        for _ in 0..milliseconds {
+            for (number, timer) in self.timers.iter_mut().enumerate() {
+                if timer.millisecond() {
+                    firings[number] += 1;
+                    if timer.control & INTERRUPT != 0 {
+                        self.pending |= 1 << number;
+                    }
+                }
+            }
+        }
+        for (number, timer) in timers.iter().enumerate() {
+            met::passed(number, timer, pending, self.condition, firings[number]);
         }
     }
 }

@@ -1,16 +1,17 @@
-//! Random cases: runs, cards, runs with looks between them, and pairs of memories for demand 3.
+//! Random cases: runs, cards, times, runs with looks between them, and pairs of memories for demand 3.
 
-use crate::assemble::put_words;
+use crate::assemble::{put_words, Card};
 use crate::card::{self, LONGEST};
 use crate::case::{Call, Case};
-use crate::emulator::{Machine, E, EXECUTE, FLAG_BITS, I, LINES, MEMORY, P, READ, VALID};
+use crate::emulator::{Machine, E, EXECUTE, FLAG_BITS, HALTED, I, LINES, LOST, MEMORY, P, READ, RUNNING, VALID};
 use crate::image;
 use crate::isolation::Pair;
 use crate::looks::Looks;
-use crate::program::{self, Ground, Style};
+use crate::program::{self, Ground, Ports, Style};
 use crate::report::REPORT;
 use crate::rng::Rng;
 use crate::sample::{self, edge, instruction_word, value};
+use crate::timer::Timer;
 
 /// Scratch space for making cases, and the first bytes that are valid.
 pub struct Maker {
@@ -33,7 +34,7 @@ impl Maker {
     fn scene(&mut self, rng: &mut Rng) {
         match rng.below(100) {
             0..=54 => self.user(rng),
-            55..=74 => self.untranslated(rng),
+            55..=74 => self.untranslated(rng, Ports::ANY),
             75..=91 => self.wild(rng),
             _ => self.ends(rng),
         }
@@ -68,6 +69,7 @@ impl Maker {
         m.missed = rng.byte();
         m.condition = if rng.chance(3) { 1 + rng.below(2) as u8 } else { 0 };
         m.tlb = sample::tlb(rng);
+        m.timers = sample::timers(rng);
     }
 
     /// Random bytes in the frames of the ground's data pages.
@@ -81,23 +83,23 @@ impl Maker {
     /// A program in user mode with the MMU on.
     fn user(&mut self, rng: &mut Rng) {
         let nasty = rng.pick(&[0, 0, 1, 3, 20, 60]);
-        let io = rng.chance(20);
-        self.user_program(rng, nasty, io);
+        let ports = if rng.chance(20) { Ports::ANY } else { Ports::NONE };
+        self.user_program(rng, nasty, ports);
     }
 
-    fn user_program(&mut self, rng: &mut Rng, nasty: u64, io: bool) {
+    fn user_program(&mut self, rng: &mut Rng, nasty: u64, ports: Ports) {
         self.surroundings(rng);
         if rng.chance(90) {
             sample::make_useful(rng, &mut self.machine.tlb);
         }
         self.machine.mmu_on = true;
-        self.machine.flag |= if io { I } else { 0 };
+        self.machine.flag |= if ports.allowed() { I } else { 0 };
         let ground = Ground::of_tlb(&self.machine.tlb);
-        self.program(rng, &ground, Style { nasty, ports: io, kernel: false });
+        self.program(rng, &ground, Style { nasty, ports, kernel: false });
     }
 
     /// A program in kernel mode, or in user mode with the MMU off.
-    fn untranslated(&mut self, rng: &mut Rng) {
+    fn untranslated(&mut self, rng: &mut Rng, ports: Ports) {
         self.surroundings(rng);
         let kernel = rng.chance(75);
         let io = rng.chance(40);
@@ -105,7 +107,8 @@ impl Maker {
         self.machine.mmu_on = kernel && rng.chance(50);
         let ground = Ground::untranslated(rng);
         let nasty = rng.pick(&[0, 0, 2, 10, 50]);
-        self.program(rng, &ground, Style { nasty, ports: kernel || io, kernel });
+        let ports = if kernel || io { ports } else { Ports::NONE };
+        self.program(rng, &ground, Style { nasty, ports, kernel });
         if kernel && rng.chance(85) {
             let both = ground.both(rng).unwrap_or(0);
             self.machine.ssp = u16::from_be_bytes([both, 0x80]);
@@ -241,10 +244,29 @@ impl Maker {
         }
     }
 
+    /// Times and runs on a random start, mostly with a program that reads and sets the timers, halted or lost at times; now
+    /// and then with a bad timer.
+    pub fn time_case(&mut self, rng: &mut Rng, case: &mut Case) {
+        match rng.below(10) {
+            0..=3 => self.user_program(rng, 1, Ports::TIMERS),
+            4..=7 => self.untranslated(rng, Ports::TIMERS),
+            _ => self.scene(rng),
+        }
+        let frame = rng.below(255) as u8;
+        handlers(rng, &mut self.machine, frame);
+        self.machine.flag |= rng.word() & E;
+        self.machine.condition = rng.pick(&[RUNNING, RUNNING, RUNNING, RUNNING, HALTED, LOST]);
+        case.call = Call::Card(time_card(rng, self.machine.timers));
+        self.fill_case(rng, case, 12 * REPORT);
+        if rng.chance(10) {
+            spoil_timer(rng, &mut case.image);
+        }
+    }
+
     /// Two memories that differ only in frames without read and execute right.
     pub fn pair(&mut self, rng: &mut Rng, pair: &mut Pair) {
         let nasty = rng.pick(&[0, 0, 0, 1, 2, 30]);
-        self.user_program(rng, nasty, false);
+        self.user_program(rng, nasty, Ports::NONE);
         self.machine.condition = 0;
         pair.allowance = if rng.chance(2) { rng.between(1_500, 65_535) } else { rng.between(1, 1_500) } as u16;
         pair.image = image::write(&self.machine);
@@ -282,15 +304,16 @@ fn allowance(rng: &mut Rng) -> u16 {
 
 /// Handlers in one frame, an even SSP: a card's later runs go on from an entry.
 pub fn handlers(rng: &mut Rng, machine: &mut Machine, frame: u8) {
-    const HANDLERS: [&[u16]; 4] = [
+    const HANDLERS: [&[u16]; 5] = [
         &[0xD400],                                         // RETI
         &[0xB000, 0x00A4, 0xB010, 0x00A2, 0xD400],         // IN cause, IN address, RETI
+        &[0xB000, 0x0002, 0xB010, 0x0006, 0xD400],         // IN fired of both timers, RETI
         &[0xC400, 0xC410, 0x1D12, 0xC010, 0xC000, 0xD400], // go on behind the faulting word
         &[0xFF00],                                         // HALT
     ];
     for number in 0..16 {
         let place = frame as usize * 256 + 16 * number;
-        let kinds = if rng.chance(95) { 3 } else { 4 };
+        let kinds = if rng.chance(95) { 4 } else { 5 };
         put_words(&mut machine.memory, place, rng.pick(&HANDLERS[..kinds]));
         put_words(&mut machine.memory, 0xFFE0 + 2 * number, &[place as u16]);
     }
@@ -311,11 +334,11 @@ fn spoil_buffers(rng: &mut Rng, case: &mut Case) {
     for _ in 0..rng.between(1, 2) {
         match rng.below(6) {
             0 => {
-                let length = rng.pick(&[0, 1, 68, MEMORY - 1, MEMORY + 1, MEMORY + 256]);
+                let length = rng.pick(&[0, 1, image::IMAGE, MEMORY - 1, MEMORY + 1, MEMORY + 256]);
                 case.memory.resize(length, 0x5A);
             }
             1 => {
-                let length = rng.pick(&[0, 1, 12, 67, 69, 136]);
+                let length = rng.pick(&[0, 1, 12, 68, 83, 85, 168]);
                 case.image.resize(length, 0);
             }
             2 => {
@@ -332,7 +355,7 @@ fn spoil_buffers(rng: &mut Rng, case: &mut Case) {
 fn spoil_field(rng: &mut Rng, image: &mut [u8]) {
     let bit = 1u8 << rng.below(8);
     let entry = image::TLB + 3 * rng.below(8) as usize;
-    match rng.below(9) {
+    match rng.below(12) {
         0 => image[image::FLAG] |= bit,
         1 => image[image::FLAG + 1] |= 0x10,
         2 => image[image::PENDING] |= bit,
@@ -341,8 +364,26 @@ fn spoil_field(rng: &mut Rng, image: &mut [u8]) {
         5 => image[image::CAUSE] |= bit,
         6 => image[entry + 1] |= rng.pick(&[0x20, 0x40, 0x60]),
         7 => image[image::CONDITION] = 3,
+        8..=10 => spoil_timer(rng, image),
         _ => image[rng.below(image::IMAGE as u64) as usize] ^= bit,
     }
+}
+
+/// One word of a timer: beyond its values mostly, or just inside them.
+fn spoil_timer(rng: &mut Rng, image: &mut [u8]) {
+    let timer = image::TIMERS + image::TIMER * rng.below(2) as usize;
+    let period = u16::from_be_bytes([image[timer + image::PERIOD], image[timer + image::PERIOD + 1]]);
+    let (offset, value) = match rng.below(8) {
+        0 => (image::CONTROL, 1 << rng.below(16)),
+        1 => (image::CONTROL, rng.word()),
+        2 => (image::FIRED, rng.pick(&[1, 2, 3, 0x0100, 0x8000])),
+        3 => (image::FIRED, rng.word()),
+        4 => (image::PERIOD, rng.pick(&[0, 1, 2])),
+        5 => (image::COUNT, period),
+        6 => (image::COUNT, period.wrapping_add(1)),
+        _ => (image::COUNT, rng.word()),
+    };
+    image[timer + offset..timer + offset + 2].copy_from_slice(&u16::to_be_bytes(value));
 }
 
 /// One good command.
@@ -350,7 +391,7 @@ fn good_command(rng: &mut Rng, machine: &Machine, card: &mut Vec<u8>) {
     let pages: Vec<u8> = machine.tlb.iter().map(|e| (e >> 16) as u8).collect();
     let even = if rng.chance(95) { 0xFFFE } else { 0xFFFF };
     let [high, low] = (value(rng, &pages) & even).to_be_bytes();
-    match rng.below(16) {
+    match rng.below(18) {
         0..=2 => {
             let [a, b] = machine.pc.wrapping_add(rng.below(16) as u16).to_be_bytes();
             card.extend([0x01, a, b, rng.byte()]);
@@ -376,6 +417,10 @@ fn good_command(rng: &mut Rng, machine: &Machine, card: &mut Vec<u8>) {
             card.extend([0x02, 15, a, b]);
             card.extend([0x07, 0, machine.flag as u8]);
         }
+        12..=13 => {
+            let [a, b] = sample::milliseconds(rng, &machine.timers).to_be_bytes();
+            card.extend([0x08, a, b]);
+        }
         _ => {
             let allowance = if rng.chance(95) { rng.below(60) } else { rng.below(3000) };
             let [a, b] = (allowance as u16).to_be_bytes();
@@ -388,7 +433,7 @@ fn good_command(rng: &mut Rng, machine: &Machine, card: &mut Vec<u8>) {
 fn bad_command(rng: &mut Rng, card: &mut Vec<u8>) {
     let at = card.len();
     let any = [rng.byte(), rng.byte(), rng.byte(), rng.byte()];
-    card.push(rng.pick(&[0x00, 0x02, 0x03, 0x05, 0x05, 0x06, 0x07, 0x07, 0x08, 0xFF, 0x80]));
+    card.push(rng.pick(&[0x00, 0x02, 0x03, 0x05, 0x05, 0x06, 0x07, 0x07, 0x08, 0x09, 0xFF, 0x80]));
     match card[at] {
         0x02 => card.extend([rng.between(16, 255) as u8, any[0], any[1]]),
         0x03 => card.extend([any[0] | 1 << rng.between(2, 7), any[1], any[2]]),
@@ -397,8 +442,30 @@ fn bad_command(rng: &mut Rng, card: &mut Vec<u8>) {
         0x06 => card.push(rng.between(2, 255) as u8),
         0x07 if rng.chance(50) => card.extend([0, any[0] | 0x10]),
         0x07 => card.extend([1 << rng.below(8), any[0]]),
+        0x08 => card.extend(&any[..rng.below(2) as usize]),
         _ => {}
     }
+}
+
+/// A good card of times mostly, with up to 12 runs. Times go by the timers as they are then, if no program sets them.
+fn time_card(rng: &mut Rng, mut timers: [Timer; 2]) -> Vec<u8> {
+    let mut card = Card::new();
+    for _ in 0..rng.between(1, 12) {
+        card = match rng.below(12) {
+            0 => card.flag(rng.word() & FLAG_BITS),
+            1 => card.lines(rng.word() & LINES & rng.word(), rng.byte()),
+            2 => card.mmu(rng.below(2) as u8),
+            3..=6 => card.run(rng.below(120) as u16),
+            _ => {
+                let milliseconds = sample::milliseconds(rng, &timers);
+                for timer in &mut timers {
+                    (0..milliseconds).for_each(|_| _ = timer.millisecond());
+                }
+                card.time(milliseconds)
+            }
+        };
+    }
+    card.bytes()
 }
 
 /// A card: good, cut, damaged, random, empty, near the greatest length or over it.
@@ -444,7 +511,7 @@ fn fit(rng: &mut Rng, card: &mut Vec<u8>, good: bool) {
     let mut end = 0;
     let mut at = 0;
     while at < card.len() {
-        at += [0, 4, 4, 4, 3, 5, 2, 3][card[at] as usize];
+        at += 1 + card::operands(card[at]).expect("a good command");
         if at <= LONGEST && at != LONGEST - 1 {
             end = at;
         }

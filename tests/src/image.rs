@@ -1,9 +1,10 @@
-//! The state image of 68 bytes, upper byte first, and refusals 1 to 3.
+//! The state image of 84 bytes, upper byte first, and refusals 1 to 3.
 
 use crate::emulator::{Machine, FLAG_BITS, LINES, MEMORY, ZEROS};
+use crate::timer::{Timer, CONTROL_BITS};
 
 /// Bytes of an image.
-pub const IMAGE: usize = 68;
+pub const IMAGE: usize = 84;
 
 // Offsets of the image's fields ("Registers and state image"): 13 words G0-G11 and FP, then the others.
 pub const REGS: usize = 0;
@@ -20,6 +21,16 @@ pub const VIOLATION: usize = 40;
 pub const CAUSE: usize = 42;
 pub const MISSED: usize = 43;
 pub const TLB: usize = 44;
+/// "Four words per timer at the end" (document 02, request 2).
+pub const TIMERS: usize = 68;
+
+// Offsets in a timer.
+pub const COUNT: usize = 0;
+pub const PERIOD: usize = 2;
+pub const CONTROL: usize = 4;
+pub const FIRED: usize = 6;
+/// Bytes of a timer.
+pub const TIMER: usize = 8;
 
 /// A refusal: its number and P.
 #[derive(Clone, Copy, Debug, PartialEq, Eq)]
@@ -49,6 +60,16 @@ fn entry(bytes: &[u8], k: usize) -> u32 {
     u32::from_be_bytes([0, bytes[at], bytes[at + 1], bytes[at + 2]])
 }
 
+/// Count, period, control and fired of timer `n`.
+fn timer_words(bytes: &[u8], n: usize) -> [u16; 4] {
+    [COUNT, PERIOD, CONTROL, FIRED].map(|offset| word(bytes, TIMERS + TIMER * n + offset))
+}
+
+/// "Refusal 3 covers control, fired, a count not below a non-zero period, and a non-zero count with period 0."
+fn good_timer([count, period, control, fired]: [u16; 4]) -> bool {
+    control & !CONTROL_BITS == 0 && fired <= 1 && if period == 0 { count == 0 } else { count < period }
+}
+
 /// Refusals 1, 2 and 3, in this order.
 pub fn test(memory: &[u8], image: &[u8]) -> Result<(), Refusal> {
     if memory.len() != MEMORY {
@@ -67,7 +88,8 @@ pub fn test_image(image: &[u8]) -> Result<(), Refusal> {
         && image[MMU] <= 1
         && image[CONDITION] <= 2
         && image[CAUSE] <= 3
-        && (0..8).all(|k| entry(image, k) & ZEROS == 0);
+        && (0..8).all(|k| entry(image, k) & ZEROS == 0)
+        && (0..2).all(|n| good_timer(timer_words(image, n)));
     if !good {
         return Err(Refusal::plain(3));
     }
@@ -92,6 +114,10 @@ pub fn read(memory: Vec<u8>, image: &[u8]) -> Machine {
         cause: image[CAUSE],
         missed: image[MISSED],
         tlb: std::array::from_fn(|k| entry(image, k)),
+        timers: std::array::from_fn(|n| {
+            let [count, period, control, fired] = timer_words(image, n);
+            Timer { count, period, control, fired: fired == 1 }
+        }),
     }
 }
 
@@ -108,6 +134,13 @@ pub fn write(machine: &Machine) -> [u8; IMAGE] {
     put(FLAG, machine.flag);
     put(PENDING, machine.pending);
     put(VIOLATION, machine.violation);
+    for (n, timer) in machine.timers.iter().enumerate() {
+        let at = TIMERS + TIMER * n;
+        put(at + COUNT, timer.count);
+        put(at + PERIOD, timer.period);
+        put(at + CONTROL, timer.control);
+        put(at + FIRED, timer.fired as u16);
+    }
     image[INPUT] = machine.input;
     image[OUTPUT] = machine.output;
     image[MMU] = machine.mmu_on as u8;

@@ -63,6 +63,10 @@ pub fn check(run: RunCall, pair: &Pair, a: &mut After, b: &mut After) -> Result<
     if a.report != b.report {
         return Err(format!("the reports differ: {} and {}", hex(&a.report), hex(&b.report)));
     }
+    // Time passes only by a card's command, and a user without I/O privilege reaches no port.
+    if a.image[image::TIMERS..] != pair.image[image::TIMERS..] {
+        return Err("a timer changed".to_string());
+    }
     let entered = a.report[0] == 1;
     let other_handler = images(a, b, entered)?;
     let overwrote = memories(pair, a, b)?;
@@ -113,7 +117,7 @@ fn memories(pair: &Pair, a: &After, b: &After) -> Result<bool, String> {
 /// The frames to which some valid entry of the image's TLB gives one of the rights.
 fn frames_with(image: &[u8; IMAGE], rights: u32) -> [bool; 256] {
     let mut frames = [false; 256];
-    for bytes in image[image::TLB..].chunks(3) {
+    for bytes in image[image::TLB..image::TIMERS].chunks(3) {
         let entry = u32::from_be_bytes([0, bytes[0], bytes[1], bytes[2]]);
         if entry & VALID != 0 && entry & rights != 0 {
             frames[entry as u8 as usize] = true;

@@ -9,6 +9,7 @@ pub mod generate;
 pub mod image;
 pub mod isolation;
 pub mod looks;
+pub mod met;
 pub mod program;
 pub mod replay;
 pub mod report;
@@ -17,6 +18,7 @@ pub mod sample;
 pub mod scenarios;
 pub mod scene;
 pub mod stored;
+pub mod timer;
 
 #[cfg(feature = "library")]
 pub mod ffi;

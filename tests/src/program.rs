@@ -3,7 +3,7 @@
 use crate::assemble::put_words;
 use crate::emulator::{Machine, EXECUTE, READ, WRITE};
 use crate::rng::Rng;
-use crate::sample::{self, edge, number, ALU, PORTS};
+use crate::sample::{self, edge, number, ALU, PORTS, TIMER_PORTS};
 
 /// The pages that a program may use, and whether they are translated.
 #[derive(Clone, Debug, Default)]
@@ -54,13 +54,30 @@ impl Ground {
     }
 }
 
+/// The ports that a program's IN and OUT take, in so many percent of its instructions.
+#[derive(Clone, Copy, Debug)]
+pub struct Ports {
+    list: &'static [u16],
+    percent: u64,
+}
+
+impl Ports {
+    /// IN and OUT are not allowed.
+    pub const NONE: Ports = Ports { list: &PORTS, percent: 0 };
+    pub const ANY: Ports = Ports { list: &PORTS, percent: 5 };
+    pub const TIMERS: Ports = Ports { list: &TIMER_PORTS, percent: 20 };
+
+    pub fn allowed(self) -> bool {
+        self.percent != 0
+    }
+}
+
 /// What a program is made of.
 #[derive(Clone, Copy, Debug)]
 pub struct Style {
     /// Percent of nasty instructions.
     pub nasty: u64,
-    /// IN and OUT are allowed.
-    pub ports: bool,
+    pub ports: Ports,
     /// P=1: RETI and HALT are allowed.
     pub kernel: bool,
 }
@@ -142,6 +159,8 @@ impl<'a> Writer<'a> {
             self.starts.push(self.base + 2 * self.words.len() as u16);
             if self.rng.chance(self.style.nasty) {
                 self.nasty();
+            } else if self.rng.chance(self.style.ports.percent) {
+                self.port();
             } else {
                 self.tame();
             }
@@ -193,7 +212,6 @@ impl<'a> Writer<'a> {
                 self.word(0x14, rd, 0);
             }
             95 => self.word(0x00, 0, 0),
-            96..=97 if self.style.ports => self.port(),
             98 if self.style.kernel => self.reti(),
             _ => self.alu(),
         }
@@ -285,8 +303,13 @@ impl<'a> Writer<'a> {
     fn port(&mut self) {
         let rd = self.data_register();
         let first = if self.rng.chance(50) { 0xB0 } else { 0xB8 };
+        let port = self.rng.pick(self.style.ports.list);
+        if first == 0xB8 && port < 8 {
+            self.word(0x0A, rd, 0);
+            let value = sample::timer_word(self.rng, port);
+            self.words.push(value);
+        }
         self.word(first, rd, 0);
-        let port = self.rng.pick(&PORTS);
         self.words.push(port);
     }
 
@@ -345,14 +368,15 @@ impl<'a> Writer<'a> {
         }
     }
 
-    /// Tries to read any frame: by a new TLB entry, without the MMU, or with P=1.
+    /// Tries to read any frame: by a new TLB entry, without the MMU, or with P=1; or to set a timer.
     fn attack(&mut self) {
         let address = self.rng.word() & 0xFFFE;
         let frame = self.rng.byte() as u16;
         let entry = 4 * self.rng.below(8) as u16;
-        let words = match self.rng.below(3) {
+        let words = match self.rng.below(4) {
             0 => vec![0x0A00, address >> 8, 0xB800, 0x80 + entry, 0x0A00, 0x8700 | frame, 0xB800, 0x82 + entry],
             1 => vec![0x0D00, 0xB800, 0x00A2],
+            2 => vec![0x0A00, self.rng.word(), 0xB800, self.rng.pick(&TIMER_PORTS)],
             _ => {
                 let next = self.base.wrapping_add(2 * self.words.len() as u16 + 14);
                 vec![0x0A00, next, 0xC000, 0x0A00, 0x0040, 0xC000, 0xD400]

@@ -20,6 +20,7 @@ use crate::image;
 use crate::isolation::Pair;
 use crate::looks::Looks;
 use crate::report::REPORT;
+use crate::timer::Timer;
 use std::fmt::Write;
 
 #[derive(Clone, Debug)]
@@ -122,7 +123,7 @@ pub fn parse(text: &str) -> Result<Replay, String> {
             return Ok(Replay::Looks(Looks { start, more: allowance(more)? }));
         }
         ["pair", n] => {
-            let image = image.try_into().map_err(|_| "a pair's image has 68 bytes")?;
+            let image = image.try_into().map_err(|_| format!("a pair's image has {} bytes", image::IMAGE))?;
             return Ok(Replay::Pair(Pair { allowance: allowance(n)?, image, first: memory()?, second: memory()? }));
         }
         _ => return Err(format!("no call: {}", head.join(" "))),
@@ -131,11 +132,12 @@ pub fn parse(text: &str) -> Result<Replay, String> {
 }
 
 /// A card that makes this memory and image from those of `bench`, if there is one: no command sets the output byte, the
-/// condition and what faults left.
+/// condition, what faults left and the timers.
 fn setup(memory: &[u8], image: &[u8]) -> Option<Card> {
     image::test(memory, image).ok()?;
     let m = image::read(Vec::new(), image);
-    if (m.output, m.condition, m.violation, m.cause, m.missed) != (0, RUNNING, 0, 0, 0) {
+    let unset = (m.output, m.condition, m.violation, m.cause, m.missed) == (0, RUNNING, 0, 0, 0);
+    if !unset || m.timers != [Timer::default(); 2] {
         return None;
     }
     let mut card = Card::new();
@@ -195,7 +197,7 @@ pub fn card_lines(card: &[u8]) -> String {
     let mut text = String::new();
     let mut rest = card;
     while let Some(&first) = rest.first() {
-        let length = [1, 4, 4, 4, 3, 5, 2, 3].get(first as usize).copied().unwrap_or(1).min(rest.len());
+        let length = (1 + card::operands(first).unwrap_or(0)).min(rest.len());
         let bytes: Vec<String> = rest[..length].iter().map(|byte| format!("{byte:02X}")).collect();
         let _ = writeln!(text, "{}", bytes.join(" "));
         rest = &rest[length..];

@@ -1,7 +1,8 @@
-//! Random addresses, words, TLBs and instruction words.
+//! Random addresses, words, TLBs, timers and instruction words.
 
 use crate::emulator::{DIRTY, EXECUTE, READ, REFERENCED, VALID, WRITE};
 use crate::rng::Rng;
+use crate::timer::{Timer, INTERRUPT, START};
 
 /// First bytes that document 01 gives a meaning.
 pub fn valid_first_bytes() -> Vec<u8> {
@@ -18,10 +19,14 @@ pub fn valid_first_bytes() -> Vec<u8> {
 pub const ALU: [u8; 14] = [0x18, 0x20, 0x28, 0x30, 0x38, 0x40, 0x48, 0x50, 0x58, 0x60, 0x80, 0x88, 0x90, 0x98];
 
 /// Ports with a meaning, and some without.
-pub const PORTS: [u16; 30] = [
-    0x18, 0x18, 0x80, 0x82, 0x84, 0x86, 0x88, 0x8A, 0x8C, 0x8E, 0x90, 0x92, 0x94, 0x96, 0x98, 0x9A, 0x9C, 0x9E, 0xA2,
-    0xA2, 0xA4, 0xA4, 0xA6, 0xA0, 0x19, 0x81, 0xA3, 0x0118, 0x01A4, 0x00,
+pub const PORTS: [u16; 45] = [
+    0x00, 0x00, 0x02, 0x02, 0x04, 0x04, 0x06, 0x06, 0x18, 0x18, 0x80, 0x82, 0x84, 0x86, 0x88, 0x8A, 0x8C, 0x8E, 0x90,
+    0x92, 0x94, 0x96, 0x98, 0x9A, 0x9C, 0x9E, 0xA2, 0xA2, 0xA4, 0xA4, 0xA6, 0xA0, 0x19, 0x81, 0xA3, 0x0118, 0x01A4,
+    0x01, 0x03, 0x05, 0x07, 0x08, 0x0100, 0x0102, 0x0106,
 ];
+
+/// The timers' ports, and the odd ones between them.
+pub const TIMER_PORTS: [u16; 16] = [0, 0, 0, 2, 2, 2, 4, 4, 4, 6, 6, 6, 1, 3, 5, 7];
 
 const EDGES: [u16; 18] = [
     0x0000, 0x0001, 0x0002, 0x0003, 0x00FE, 0x00FF, 0x0100, 0x7FFF, 0x8000, 0x8001, 0xFEFF, 0xFF00, 0xFFDE, 0xFFE0,
@@ -137,6 +142,60 @@ pub fn make_useful(rng: &mut Rng, tlb: &mut [u32; 8]) {
         }
         let frame = page_number(rng);
         tlb[at] = entry(rng, page, frame, rights);
+    }
+}
+
+/// A control word with bits that exist: started mostly.
+fn control(rng: &mut Rng) -> u16 {
+    rng.pick(&[0, START, START, INTERRUPT, INTERRUPT | START, INTERRUPT | START, INTERRUPT | START])
+}
+
+/// A period: small mostly, 0, near an end, or any.
+fn period(rng: &mut Rng) -> u16 {
+    match rng.below(10) {
+        0 => 0,
+        1..=6 => rng.between(1, 20) as u16,
+        7 => rng.pick(&[1, 2, 0x7FFF, 0x8000, 0x8001, 0xFFFE, 0xFFFF]),
+        _ => rng.word(),
+    }
+}
+
+/// What OUT gives a timer's port: a period, a control word, anything at times.
+pub fn timer_word(rng: &mut Rng, port: u16) -> u16 {
+    match port % 4 {
+        0 => period(rng),
+        2 if rng.chance(70) => control(rng),
+        _ => number(rng),
+    }
+}
+
+/// A good timer, its count at either end at times.
+pub fn timer(rng: &mut Rng) -> Timer {
+    let period = period(rng);
+    let last = period.saturating_sub(1);
+    let count = match rng.below(4) {
+        0 => 0,
+        1 => last,
+        _ => rng.between(0, last as u64) as u16,
+    };
+    Timer { count, period, control: control(rng), fired: rng.chance(40) }
+}
+
+pub fn timers(rng: &mut Rng) -> [Timer; 2] {
+    [timer(rng), timer(rng)]
+}
+
+/// Milliseconds: few mostly, to or around the next firing of one of the timers, none, many now and then.
+pub fn milliseconds(rng: &mut Rng, timers: &[Timer; 2]) -> u16 {
+    let Timer { count, period, .. } = rng.pick(timers);
+    let left = period - count;
+    match rng.below(100) {
+        0..=4 => 0,
+        5..=84 if left < 500 || rng.chance(5) => left.wrapping_add(rng.pick(&[0, 0, 1, 0xFFFF])),
+        5..=89 => rng.between(1, 25) as u16,
+        90..=97 => rng.between(26, 1_000) as u16,
+        98 => rng.word(),
+        _ => rng.pick(&[0x7FFF, 0x8000, 0xFFFE, 0xFFFF]),
     }
 }
 

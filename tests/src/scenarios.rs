@@ -6,7 +6,7 @@ use crate::assemble::*;
 use crate::case::Case;
 use crate::emulator::{DIRTY, E, EXECUTE, FLAG_BITS, I, LINES, P, READ, REFERENCED, VALID, WRITE};
 use crate::rng::Rng;
-use crate::sample::{number, PORTS};
+use crate::sample::{number, timer_word, PORTS, TIMER_PORTS};
 use crate::scene::{Code, Scene, Way};
 
 pub struct Scenario {
@@ -25,7 +25,7 @@ const fn scenario(name: &'static str, ways: &'static [Way], make: fn(&mut Scene)
     Scenario { name, ways, make }
 }
 
-pub const SCENARIOS: [Scenario; 24] = [
+pub const SCENARIOS: [Scenario; 25] = [
     scenario("first touches", TRANSLATED, first_touches),
     scenario("marks without rights", TRANSLATED, marks_without_rights),
     scenario("entries changed by OUT", USER, entries_changed),
@@ -50,6 +50,7 @@ pub const SCENARIOS: [Scenario; 24] = [
     scenario("ports in a loop", ALL, ports),
     scenario("a stop in a loop", ALL, stop_in_a_loop),
     scenario("many pages", ALL, many_pages),
+    scenario("timers in a loop", ALL, timers),
 ];
 
 impl Scenario {
@@ -703,4 +704,43 @@ fn many_pages(s: &mut Scene) {
         c.add(jump(ALWAYS, At(next | 0x20)));
         s.begin_at(&c);
     }
+}
+
+/// A loop that reads and sets the timers, stores what it reads and waits for a firing at times; time passes between the runs.
+fn timers(s: &mut Scene) {
+    s.time = 70;
+    s.m.flag |= if s.rng.chance(90) { I } else { 0 };
+    s.m.flag |= if s.rng.chance(50) { E } else { 0 };
+    let code = s.page(EXECUTE);
+    let data = s.data(READ | WRITE);
+    s.m.usp = data | 0x80;
+    let mut c = s.code_in(code);
+    let top = s.turns(&mut c);
+    for _ in 0..s.rng.between(2, 6) {
+        let port = s.rng.pick(&TIMER_PORTS);
+        let rd = s.register();
+        match s.rng.below(4) {
+            0 => {
+                let value = timer_word(s.rng, port);
+                s.out(&mut c, port, value);
+            }
+            1 => {
+                c.add(input(rd, At(port)));
+                c.add(st(rd, At(data | s.offset() & 0xFE)));
+            }
+            // Until fired is set: the run is spent here, unless it is.
+            2 => {
+                let wait = c.here();
+                c.add(input(rd, At(port | 2)));
+                c.add(cmp(rd, Short(0)));
+                if s.rng.chance(30) {
+                    c.add(jump(ZERO, At(wait)));
+                }
+            }
+            _ => c.add(input(rd, At(port))),
+        }
+        s.tame_up_to(&mut c, 2);
+    }
+    s.end_turns(&mut c, top);
+    s.begin_at(&c);
 }

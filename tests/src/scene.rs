@@ -58,6 +58,8 @@ pub struct Scene<'a> {
     pub way: Way,
     /// Percent of the marks that a new entry has already.
     pub marks: u64,
+    /// Percent of a card's runs that time passes before.
+    pub time: u64,
     /// TLB entries that are not used yet.
     free: Vec<usize>,
     /// Pages and frames that are used.
@@ -82,8 +84,9 @@ impl<'a> Scene<'a> {
         m.violation = rng.word();
         m.cause = rng.below(4) as u8;
         m.missed = rng.byte();
+        m.timers = sample::timers(rng);
         let marks = rng.pick(&[0, 50, 100]);
-        let mut scene = Scene { rng, m, way, marks, free: (0..8).collect(), used: vec![0x00, 0xFF] };
+        let mut scene = Scene { rng, m, way, marks, time: 5, free: (0..8).collect(), used: vec![0x00, 0xFF] };
         for k in (1..8).rev() {
             scene.free.swap(k, scene.rng.below(k as u64 + 1) as usize);
         }
@@ -350,6 +353,9 @@ impl<'a> Scene<'a> {
                 4 => card.pc(self.m.pc),
                 _ => card,
             };
+            if self.rng.chance(self.time) {
+                card = card.time(sample::milliseconds(self.rng, &self.m.timers));
+            }
             card = card.run(self.allowance().min(300));
         }
         Call::Card(card.bytes())

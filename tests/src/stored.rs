@@ -84,6 +84,7 @@ pub fn all() -> Vec<Stored> {
         entries(),
         switches(),
         flags(),
+        times(),
         faults(),
         endings(),
         buffers(),
@@ -281,6 +282,115 @@ fn flags() -> Vec<Stored> {
     ]
 }
 
+/// Code that sets a timer: 16 bytes, 4 steps of 22 states.
+fn set_timer(n: u8, period: u16, control: u16) -> Vec<Words> {
+    let port = 4 * n as u16;
+    vec![ld(0, Value(period)), output(0, At(port)), ld(0, Value(control)), output(0, At(port + 2))]
+}
+
+/// The kernel at 0200h sets a timer, then has this code at 0210h.
+fn with_timer(n: u8, period: u16, control: u16, code: &[Words]) -> Card {
+    Card::new().ssp(0x1000).code(0x0200, &[&set_timer(n, period, control), code].concat()).pc(0x0200)
+}
+
+/// Command 08. Words read by IN are shown as PC.
+fn times() -> Vec<Stored> {
+    let mut cases = [firings(0), uses(0), firings(1), uses(1)].concat();
+    let wait = [input(1, At(0x02)), cmp(1, Short(0)), jump(ZERO, At(0x0210)), halt()];
+    let pause = with_timer(0, 500, 0x0001, &wait).run(34).time(499).run(30).time(1).run(30);
+    let both = [set_timer(0, 3, 0x8001), set_timer(1, 2, 0x8001), vec![jump(ALWAYS, At(0x0320))]].concat();
+    let both = vectors(&[0, 1]).code(0, &[reti()]).code(0x0100, &[reti()]).code(0x0300, &both).ssp(0x1000).flag(E | P);
+    let both = both.pc(0x0300).run(8).time(6).run(2).run(2).run(3).time(1).run(1).time(1).run(1);
+    let ports = [set_timer(0, 3, 0x0001), set_timer(1, 4, 0x0001), vec![input(0, Pointer(1)), show(0)]].concat();
+    let ports = Card::new().code(0x0200, &ports).pc(0x0200).run(8).time(5);
+    let others = [0x01, 0x03, 0x05, 0x07, 0x08, 0x0100, 0x0102, 0x0104, 0x0106];
+    let ports = others
+        .into_iter()
+        .chain([0x00, 0x02, 0x04, 0x06, 0x02, 0x06])
+        .fold(ports, |card, port| card.register(1, port).pc(0x0220).run(2));
+    let lost = with_timer(0, 10, 0x8001, &[svc()]).ssp(0x1001).flag(E | P).run(9).time(10).run(9);
+    cases.extend([
+        case("08: a pause of 500 ms", pause),
+        case("08 for both timers: line 0 before line 1", both),
+        case("08 and the ports 01h to 07h, 08h, 0100h to 0106h", ports),
+        case("08 on a lost machine: it stays lost", lost),
+        case("08 for timers that nobody has set", Card::new().ssp(0x1000).flag(E | P).time(65_535).run(2)),
+    ]);
+    cases
+}
+
+/// The ports of a timer: that of its count, and that of fired.
+fn timer_ports(n: u8) -> (u16, u16) {
+    (4 * n as u16, 4 * n as u16 + 2)
+}
+
+/// What time does to a timer: when it fires, and when its interrupt comes.
+fn firings(n: u8) -> Vec<Stored> {
+    let (count, fired) = timer_ports(n);
+    let read = |port| input(1, At(port));
+    let twice = [read(fired), input(2, At(fired)), show(1), show(2)];
+    let twice = with_timer(n, 10, 0x0001, &twice).run(4).time(9).run(3).pc(0x0210).time(1).run(3).pc(0x021C).run(1);
+    let counts = with_timer(n, 10, 0x0001, &[read(count), show(1)]).run(4).time(7).time(0).run(2);
+    let counts = counts.pc(0x0210).time(5).run(2);
+    // The handler reads fired; E=1 is back with RETI.
+    let handler = vectors(&[n]).code((n as u16) << 8, &[read(fired), reti()]);
+    let waits = |period| with_timer(n, period, 0x8001, &[jump(ALWAYS, At(0x0210))]).flag(E | P).run(4);
+    let entered = handler.then(waits(10)).time(9).run(2).time(1).run(5).run(3).run(3);
+    let many = vectors(&[n]).code((n as u16) << 8, &[reti()]).then(waits(1)).time(65_535).run(5).run(3);
+    let again = vectors(&[n]).code((n as u16) << 8, &[reti()]).then(waits(10)).time(10).run(5).run(2);
+    let late = with_timer(n, 10, 0x8001, &[no()]).run(4).time(10).run(3).flag(E | P).run(3);
+    // E=1, and no interrupt comes before the count and fired are read.
+    let words = [read(count), input(2, At(fired)), show(1), show(2)];
+    let silent = |period, control, milliseconds| {
+        with_timer(n, period, control, &words).flag(E | P).run(4).time(milliseconds).run(3).pc(0x021C).run(1)
+    };
+    let most = [read(count), show(1), read(fired), show(1)];
+    let most = with_timer(n, 65_535, 0x0001, &most).run(4).time(65_534).run(2).pc(0x0210).time(1).run(2);
+    let steps = with_timer(n, 1, 0x8001, &[jump(ALWAYS, At(0x0210))]).flag(E | P).run(65_535).time(1).run(1);
+    vec![
+        case(format!("08: Timer{n} fires at its period, IN clears fired"), twice),
+        case(format!("08: Timer{n} counts 7, and 5 ms later 2"), counts),
+        case(format!("08: an interrupt of Timer{n}"), entered),
+        case(format!("08: 65,535 firings of Timer{n}, one interrupt"), many),
+        case(format!("08: another interrupt of Timer{n}, fired still set"), again.time(10).run(5)),
+        case(format!("08: an interrupt of Timer{n} waits while E=0"), late),
+        case(format!("08: Timer{n} with period 0"), silent(0, 0x8001, 65_535)),
+        case(format!("08: control FFFEh does not start Timer{n}"), silent(10, 0xFFFE, 25)),
+        case(format!("08: Timer{n} without its interrupt"), silent(10, 0x0001, 10)),
+        case(format!("08: Timer{n} with period 65,535"), most.pc(0x0218).run(2)),
+        case(format!("steps let no time pass for Timer{n}"), steps),
+    ]
+}
+
+/// What programs do with a timer: they stop it, set it again, or halt while it counts; users come to its ports.
+fn uses(n: u8) -> Vec<Stored> {
+    let (count, fired) = timer_ports(n);
+    let read = |port| input(1, At(port));
+    // Bit 0 is cleared, then set again.
+    let stop = [ld(0, Short(0)), output(0, At(fired)), ld(0, Short(1)), output(0, At(fired)), read(count), show(1)];
+    let stop = with_timer(n, 10, 0x0001, &stop).run(4).time(7).run(2).time(100).run(4);
+    let stop = stop.pc(0x021C).time(2).run(2).pc(0x021C).time(1).run(2);
+    let set = |port| {
+        let code = [ld(0, Short(5)), output(0, At(port)), read(count), input(2, At(fired)), show(1), show(2)];
+        with_timer(n, 10, 0x0001, &code).run(4).time(17).run(5).pc(0x0222).run(1)
+    };
+    let halts = with_timer(n, 10, 0x8001, &[halt()]).flag(E | P).run(9).time(10).run(9);
+    let own = user(&[set_timer(n, 10, 0x0001), vec![read(fired), show(1)]].concat()).flag(I).run(4).time(10).run(2);
+    let mut cases = vec![
+        case(format!("08: Timer{n} stopped and started again"), stop),
+        case(format!("OUT of Timer{n}'s period zeroes the count and keeps fired"), set(count)),
+        case(format!("OUT of Timer{n}'s control keeps the count and fired"), set(fired)),
+        case(format!("08 on a halted machine with Timer{n}: it stays halted"), halts),
+        case(format!("Timer{n}'s ports for a user with I/O privilege"), own),
+    ];
+    for port in [count, fired] {
+        for (name, code) in [("IN", input(0, At(port))), ("OUT", output(0, At(port)))] {
+            cases.push(case(format!("13: {name} of {port:02X}h of a user"), user(&[code]).run(9)));
+        }
+    }
+    cases
+}
+
 /// Faults of user programs under the MMU.
 fn faults() -> Vec<Stored> {
     let bytes = [ld(1, Value(0x1401)), st(0, Byte(1))];
@@ -354,13 +464,14 @@ fn endings() -> Vec<Stored> {
 /// Refusals 1, 2 and 3, each before the later ones.
 fn buffers() -> Vec<Stored> {
     let good = || Card::new().run(1);
-    let bad = || Card::new().run(1).raw(&[0x08]);
+    let bad = || Card::new().run(1).raw(&[0x09]);
     let mut cases = vec![
         case("refused 1: memory short by 1", good()).memory_lacks(1),
         case("refused 1: memory short by 65,535", good()).memory_lacks(65_535),
         case("refused 1 before 2, 3, 5 and 8", bad()).memory_lacks(256).image_lacks(1).flag(0x10).report(0),
         case("refused 2: image short by 1", good()).image_lacks(1),
-        case("refused 2: image short by 68", good()).image_lacks(68),
+        case("refused 2: image short by 16, as it was without timers", good()).image_lacks(16),
+        case("refused 2: image short by 84", good()).image_lacks(84),
         case("refused 2 before 3, 5 and 8", bad()).image_lacks(34).flag(0x0100).report(0),
         case("refused 3 before 5", bad()).flag(0x10),
         case("refused 3 before 8", good()).flag(0x0100).report(0),
@@ -373,20 +484,20 @@ fn buffers() -> Vec<Stored> {
 /// Refusal 5.
 fn unknown() -> Vec<Stored> {
     let front = || Card::new().byte(0, 0xFF).run(1);
-    let mut cases: Vec<Stored> = [0x00, 0x08, 0x10, 0x80, 0xFF]
+    let mut cases: Vec<Stored> = [0x00, 0x09, 0x10, 0x80, 0xFF]
         .map(|byte| case(format!("refused 5: byte {byte:02X} at 0"), Card::new().raw(&[byte]).run(1)))
         .to_vec();
     cases.extend([
         case("refused 5: in the middle", front().raw(&[0x00]).run(1)),
         case("refused 5: the last byte", front().raw(&[0x09])),
-        case("refused 5 before 7 of a later command", Card::new().mmu(1).raw(&[0x08]).flag(0x10)),
+        case("refused 5 before 7 of a later command", Card::new().mmu(1).raw(&[0x09]).flag(0x10)),
         case("refused 5 before 8", front().raw(&[0x09])).report(0),
     ]);
     cases
 }
 
 /// A good command of each kind.
-fn each_command() -> [Card; 7] {
+fn each_command() -> [Card; 8] {
     let new = Card::new;
     [
         new().byte(0, 0xFF),
@@ -396,6 +507,7 @@ fn each_command() -> [Card; 7] {
         new().entry(7, 0xFF_9FFF),
         new().mmu(1),
         new().flag(0xEF),
+        new().time(0xFFFF),
     ]
 }
 

@@ -12,7 +12,7 @@ use Rattle.card.specs.Call.{cardCall, filledPart, cardValid}
 use Rattle.command.specs.Card.{readingOf, runsIn}
 use Rattle.card.specs.Laws.{part-short}
 use Rattle.command.specs.Laws.{runs-bound}
-use Rattle.layout.specs.Valid.{allZeros, flagGood, goodImage, imageValid, machineValid, memoryValid, pendingGood, zerosGood}
+use Rattle.layout.specs.Valid.{allZeros, controlGood, countGood, flagGood, goodImage, imageValid, machineValid, memoryValid, pendingGood, timerGood, zerosGood}
 use Rattle.refusal.specs.Refusal.{andThen, reportFits}
 use Rattle.refusal.specs.declared.Validity.{Validity}
 use Rattle.refusal.specs.declared.Validity.the-variants.{Good, Refused}
@@ -57,7 +57,7 @@ module _ (card before after : List ℕ) (answer count : ℕ) (part : List ℕ) (
   written = (count-is, (text-is, omega (arith, count-is, bench-short card)))
 
 first-good : (long : ℕ) → long ≡ 65536 → machineValid long firstImage ≡ Good
-unfolding memoryValid imageValid goodImage flagGood pendingGood allZeros zerosGood
+unfolding memoryValid imageValid goodImage flagGood pendingGood allZeros zerosGood timerGood countGood controlGood
 first-good long e = rw e refl
 
 report-enough : (v : Validity) (needed long : ℕ) → needed ≤ long → andThen v (reportFits long needed) ≡ v

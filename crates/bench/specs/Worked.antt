@@ -12,7 +12,7 @@ use Rattle.decode.specs.Decode.{fieldsBad, firstOf, hasSecond, usesRx}
 use Rattle.decode.specs.Instructions.{eight, row, rows, single}
 use Rattle.decode.specs.Opcode.{costOf, inModes, inRows, modeBits, opcodeOf, statesAt}
 use Rattle.image.specs.Decode.{conditionFrom, stateFrom}
-use Rattle.layout.specs.Valid.{allZeros, flagGood, goodImage, imageValid, memoryValid, pendingGood, zerosGood}
+use Rattle.layout.specs.Valid.{allZeros, controlGood, countGood, flagGood, goodImage, imageValid, memoryValid, pendingGood, timerGood, zerosGood}
 use Rattle.listing.specs.Listing.{endingText, lineOf, linesOf, listingOf, numberText, runsText}
 use Rattle.text.specs.Text.{ascii, decimalOf, hexOf}
 use Rattle.machine.specs.Enter.{enterOf}
@@ -47,7 +47,7 @@ workedText = ascii "runs 2\n" ++ (ascii "entered 15 4 21 0008 0040\n" ++ ascii "
 
 pub worked-listing : benchOf workedCard ≡ workedText
 unfolding benchOf cardCall filledPart cardValid readAtMost readFrom readingOf runsIn commandOf goodOf operandsOf parsedOf effectOf executeOf withRegister
-    memoryValid imageValid goodImage flagGood pendingGood allZeros zerosGood reportFits stateFrom conditionFrom
+    memoryValid imageValid goodImage flagGood pendingGood allZeros zerosGood timerGood countGood controlGood reportFits stateFrom conditionFrom
     listingOf runsText linesOf lineOf endingText numberText decimalOf hexOf reportOf wordBytes
     runOf runFrom commit stepOf afterOperation bodyOf eventOf enterOf pushed flagWord
     fieldsBad firstOf hasSecond usesRx costOf eight inModes inRows modeBits opcodeOf row rows single statesAt accessOf alignedAccess stored

@@ -1,4 +1,4 @@
--- What a card's commands do to the state, to memory and to the report. Document 01, "Bench card and its listing".
+-- What a card's commands do to the state, to memory and to the report. Document 01, "Bench card and its listing"; document 02, 2/14.
 -- Assumes nothing.
 use mathlib.Core.List.{List, [], _++_, _∷_}
 use Prim.Native.Nat.{ℕ}
@@ -8,9 +8,9 @@ use Rattle.machine.specs.Flag.{withFlag}
 use Rattle.machine.specs.Run.{Ran, runOf}
 use Rattle.machine.specs.State.{withMmu, withTlb}
 use Rattle.machine.specs.declared.State.{State}
-use Rattle.settings.specs.Settings.{withLines, withRegister}
+use Rattle.settings.specs.Settings.{afterTime, withLines, withRegister}
 use Rattle.command.specs.declared.Command.{Command}
-use Rattle.command.specs.declared.Command.the-variants.{Byte, Entry, Flag, Lines, Mmu, Register, Run}
+use Rattle.command.specs.declared.Command.the-variants.{Byte, Entry, Flag, Lines, Mmu, Register, Run, Time}
 
 -- the state and the memory after some commands, and the report bytes that they wrote
 pub record Effect : Type 0 where
@@ -34,6 +34,7 @@ effectOf (Run n) st m = runEffect (runOf n st m)
 effectOf (Entry k bits) st m = effect (withTlb st (set (st .tlb) k bits)) m []
 effectOf (Mmu on) st m = effect (withMmu st on) m []
 effectOf (Flag w) st m = effect (withFlag st w) m []
+effectOf (Time ms) st m = effect (afterTime ms st) m []
 
 -- some bytes, and what came behind them
 abbrev pub behind : List ℕ → Effect → Effect

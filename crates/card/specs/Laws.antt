@@ -22,7 +22,7 @@ use Rattle.command.specs.Card.{isRun, readingOf, runsIn}
 use Rattle.command.specs.Laws.{runs-bound}
 use Rattle.card.specs.Effect.{Effect, effectOf, executeOf}
 use Rattle.command.specs.declared.Command.{Command}
-use Rattle.command.specs.declared.Command.the-variants.{Byte, Entry, Flag, Lines, Mmu, Register, Run}
+use Rattle.command.specs.declared.Command.the-variants.{Byte, Entry, Flag, Lines, Mmu, Register, Run, Time}
 
 -- ---- reports
 
@@ -36,6 +36,7 @@ reports-long (Run n) st m = refl
 reports-long (Entry k bits) st m = refl
 reports-long (Mmu on) st m = refl
 reports-long (Flag w) st m = refl
+reports-long (Time ms) st m = refl
 
 -- the reports of some commands
 pub all-reports-long : (xs : List Command) (st : State) (m : List ℕ) → length ((executeOf xs st m) .reports) ≡ reportSize * runsIn xs

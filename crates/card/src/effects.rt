@@ -98,6 +98,10 @@ fn execute_command(
             state: state.load_flag(flag),
             filled,
         },
+        Command::Time(ms) => Progress {
+            state: settings::pass_time(state, ms),
+            filled,
+        },
     }
 }
 

@@ -12,7 +12,7 @@ use Rattle.refusal.specs.declared.Validity.{Validity}
 use Rattle.refusal.specs.declared.Validity.the-variants.{Good, Refused}
 use Rattle.command.specs.Command.{parsedOf}
 use Rattle.command.specs.declared.Command.{Command}
-use Rattle.command.specs.declared.Command.the-variants.{Byte, Entry, Flag, Lines, Mmu, Register, Run}
+use Rattle.command.specs.declared.Command.the-variants.{Byte, Entry, Flag, Lines, Mmu, Register, Run, Time}
 use Rattle.command.specs.declared.Parsed.{Parsed}
 use Rattle.command.specs.declared.Parsed.the-variants.{Bad, End, Next}
 
@@ -56,6 +56,7 @@ isRun (Run n) = 1
 isRun (Entry k bits) = 0
 isRun (Mmu on) = 0
 isRun (Flag w) = 0
+isRun (Time ms) = 0
 
 -- how many of the commands are runs
 unfoldable pub runsIn : List Command → ℕ

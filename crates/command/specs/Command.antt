@@ -1,6 +1,7 @@
 -- The commands of a bench card. Document 01, "Bench card and its listing": "Commands of one byte, operands upper byte first: 01 address(2)
 -- byte(1); 02 register 0-15 (1; 13 is SSP), value(2); 03 lines(2), input byte(1), lines added to pending; 04 allowance(2), a run; 05 entry
--- 0-7 (1), bits(3); 06 MMU 0/1 (1); 07 FLAG(2). Lines, FLAG and entry bits are bounded as in refusal 3."
+-- 0-7 (1), bits(3); 06 MMU 0/1 (1); 07 FLAG(2). Lines, FLAG and entry bits are bounded as in refusal 3." Document 02, 2/14:
+-- "Card command 08 with a two-byte number of milliseconds".
 -- Assumes nothing.
 use mathlib.Core.Bool.{Bool, cond, _&&_}
 use mathlib.Core.List.{List}
@@ -13,7 +14,7 @@ use Rattle.refusal.specs.declared.Cause.{Cause}
 use Rattle.refusal.specs.declared.Cause.the-variants.{CommandBeyond, CommandShort, CommandUnknown}
 use Rattle.endian.specs.Bytes.{byteFrom, wordFrom}
 use Rattle.command.specs.declared.Command.{Command}
-use Rattle.command.specs.declared.Command.the-variants.{Byte, Entry, Flag, Lines, Mmu, Register, Run}
+use Rattle.command.specs.declared.Command.the-variants.{Byte, Entry, Flag, Lines, Mmu, Register, Run, Time}
 use Rattle.command.specs.declared.Parsed.{Parsed}
 use Rattle.command.specs.declared.Parsed.the-variants.{Bad, End, Next}
 
@@ -39,6 +40,9 @@ mmuCommand = 6
 abbrev pub flagCommand : ℕ
 flagCommand = 7
 
+abbrev pub timeCommand : ℕ
+timeCommand = 8
+
 -- how many bytes of operands a command has; 0 for a byte that is no command, since every command has some
 unfoldable pub operandsOf : ℕ → ℕ
 operandsOf n =
@@ -49,7 +53,8 @@ operandsOf n =
     (cond (eqb n entryCommand) 4
     (cond (eqb n mmuCommand) 1
     (cond (eqb n flagCommand) 2
-    0))))))
+    (cond (eqb n timeCommand) 2
+    0)))))))
 
 -- the number of a command
 abbrev pub commandNumber : Command → ℕ
@@ -60,6 +65,7 @@ commandNumber (Run n) = runCommand
 commandNumber (Entry k bits) = entryCommand
 commandNumber (Mmu on) = mmuCommand
 commandNumber (Flag w) = flagCommand
+commandNumber (Time ms) = timeCommand
 
 -- the operands within their values; `b` holds the command's own byte first
 unfoldable pub goodOf : ℕ → List ℕ → Bool
@@ -80,7 +86,8 @@ commandOf n b =
     (cond (eqb n runCommand) (Run (wordFrom b 1))
     (cond (eqb n entryCommand) (Entry (byteFrom b 1) (entryFrom b 2))
     (cond (eqb n mmuCommand) (Mmu (eqb (byteFrom b 1) 1))
-    (Flag (wordFrom b 1)))))))
+    (cond (eqb n flagCommand) (Flag (wordFrom b 1))
+    (Time (wordFrom b 1))))))))
 
 -- a bad command, by its cause and its place
 abbrev pub bad : Cause → ℕ → Parsed

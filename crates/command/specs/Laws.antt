@@ -17,7 +17,7 @@ use Rattle.command.specs.Card.{Reading, cardSize, isRun, readAtMost, rea
 use Rattle.command.specs.Command.{commandNumber, commandOf, operandsOf, parsedOf}
 use Rattle.command.specs.Whole.{Whole, by-number, whole}
 use Rattle.command.specs.declared.Command.{Command}
-use Rattle.command.specs.declared.Command.the-variants.{Byte, Entry, Flag, Lines, Mmu, Register, Run}
+use Rattle.command.specs.declared.Command.the-variants.{Byte, Entry, Flag, Lines, Mmu, Register, Run, Time}
 use Rattle.command.specs.declared.Parsed.{Parsed}
 use Rattle.command.specs.declared.Parsed.the-variants.{Bad, End, Next}
 
@@ -32,18 +32,19 @@ one-at-most (Run n) = omega arith
 one-at-most (Entry k bits) = omega arith
 one-at-most (Mmu on) = omega arith
 one-at-most (Flag w) = omega arith
+one-at-most (Time ms) = omega arith
 
 -- a run takes three bytes
 run-long : (b : List ℕ) (n : ℕ) → 0 < operandsOf n → 3 * isRun (commandOf n b) ≤ 1 + operandsOf n
 unfolding commandOf operandsOf
 run-long b =
     by-number (λ (n : ℕ). 3 * isRun (commandOf n b) ≤ 1 + operandsOf n) (omega arith) (omega arith) (omega arith) (omega arith) (omega arith)
-    (omega arith) (omega arith)
+    (omega arith) (omega arith) (omega arith)
 
 -- the command that a byte names has that byte as its number
 pub numbered : (b : List ℕ) (n : ℕ) → 0 < operandsOf n → commandNumber (commandOf n b) ≡ n
 unfolding commandOf
-numbered b = by-number (λ (n : ℕ). commandNumber (commandOf n b) ≡ n) refl refl refl refl refl refl refl
+numbered b = by-number (λ (n : ℕ). commandNumber (commandOf n b) ≡ n) refl refl refl refl refl refl refl refl
 
 -- the next command stands behind this one, and within the card or at its end; a run takes three bytes
 pub next-within :

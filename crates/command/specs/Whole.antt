@@ -86,10 +86,11 @@ one P k p n other = by (eqb n k) refl
     by true e = rw (eqb-true n k e) p
     by false e = other e
 
--- what holds of the seven commands' numbers holds of each number that has operands
+-- what holds of the eight commands' numbers holds of each number that has operands
 pub by-number :
-    (P : ℕ → Type 0) → P 1 → P 2 → P 3 → P 4 → P 5 → P 6 → P 7 → (n : ℕ) → 0 < operandsOf n → P n
+    (P : ℕ → Type 0) → P 1 → P 2 → P 3 → P 4 → P 5 → P 6 → P 7 → P 8 → (n : ℕ) → 0 < operandsOf n → P n
 unfolding operandsOf
-by-number P p1 p2 p3 p4 p5 p6 p7 n h =
-    one P 1 p1 n λ e1. one P 2 p2 n λ e2. one P 3 p3 n λ e3. one P 4 p4 n λ e4. one P 5 p5 n λ e5. one P 6 p6 n λ e6. one P 7 p7 n λ e7.
-    absurd (omega (arith, rw (e1, e2, e3, e4, e5, e6, e7) at h))
+by-number P p1 p2 p3 p4 p5 p6 p7 p8 n h =
+    one P 1 p1 n λ e1. one P 2 p2 n λ e2. one P 3 p3 n λ e3. one P 4 p4 n λ e4.
+    one P 5 p5 n λ e5. one P 6 p6 n λ e6. one P 7 p7 n λ e7. one P 8 p8 n λ e8.
+    absurd (omega (arith, rw (e1, e2, e3, e4, e5, e6, e7, e8) at h))

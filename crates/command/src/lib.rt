@@ -20,6 +20,8 @@ pub enum Command {
     Mmu(bool),
     // 07: FLAG.
     Flag(u16),
+    // 08: this many milliseconds pass.
+    Time(u16),
 }
 
 // What stands at a position of a card.

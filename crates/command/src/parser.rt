@@ -24,6 +24,8 @@ const MMU: u8 = 6;
 
 const FLAG: u8 = 7;
 
+const TIME: u8 = 8;
+
 // How many bytes of operands a command has; 0 for a byte that is no command.
 fn operand_count(number: u8) -> usize
     ensures { λ r. ⌜ r ≡ def.operandsOf number ⌝ }
@@ -36,6 +38,7 @@ fn operand_count(number: u8) -> usize
         ENTRY => 4,
         MMU => 1,
         FLAG => 2,
+        TIME => 2,
         _ => 0,
     }
 }
@@ -68,7 +71,8 @@ fn command_from(number: u8, rest: &[u8]) -> Command
         RUN => Command::Run(endian::word_from(rest, 1)),
         ENTRY => Command::Entry(rest[1], layout::entry_from(rest, 2)),
         MMU => Command::Mmu(rest[1] == 1),
-        _ => Command::Flag(endian::word_from(rest, 1)),
+        FLAG => Command::Flag(endian::word_from(rest, 1)),
+        _ => Command::Time(endian::word_from(rest, 1)),
     }
 }
 

@@ -8,6 +8,8 @@ use Rattle.machine.specs.Flag.{flagOf}
 use Rattle.machine.specs.declared.State.{State}
 use Rattle.endian.specs.Bytes.{wordBytes}
 use Rattle.layout.specs.Entries.{entryBytes}
+use Rattle.timer.specs.declared.Timer.{Timer}
+use Rattle.timer.specs.declared.Timers.{Timers}
 
 -- the bytes between the registers and the TLB
 abbrev pub betweenOf : State → List ℕ
@@ -17,6 +19,14 @@ betweenOf st =
     ++ wordBytes (st .fault .violation ∷ [])
     ++ (st .fault .cause ∷ st .fault .missed ∷ [])
 
+-- the bytes of a timer
+abbrev pub timerBytes : Timer → List ℕ
+timerBytes t = wordBytes (t .count ∷ t .period ∷ t .control ∷ boolByte (t .fired) ∷ [])
+
+-- Timer0's, then Timer1's
+abbrev pub timersBytes : Timers → List ℕ
+timersBytes ts = timerBytes (ts .timer0) ++ timerBytes (ts .timer1)
+
 -- the image of a state
 unfoldable pub imageOf : State → List ℕ
-imageOf st = wordBytes (st .regs) ++ betweenOf st ++ entryBytes (st .tlb)
+imageOf st = wordBytes (st .regs) ++ betweenOf st ++ entryBytes (st .tlb) ++ timersBytes (st .timers)

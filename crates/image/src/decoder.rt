@@ -1,15 +1,19 @@
 // A state out of its image.
 ghost use mathlib.Core.Path.{_≡_};
+ghost use Prim.Native.Nat.{_+_, _≤_};
 ghost use lib.ListN.{length};
 ghost use Rattle.image.specs.Decode as def;
 ghost use Rattle.layout.specs.Entries.{tlbEntriesFrom};
-ghost use Rattle.layout.specs.Layout.{imageSize, regsAt, tlbAt};
+ghost use Rattle.layout.specs.Layout.{imageSize, regsAt, timerSize, tlbAt};
 ghost use Rattle.endian.specs.Bytes.{wordsFrom};
 use endian::word_from;
 use fault::FaultRecord;
 use layout::CAUSE;
 use layout::CONDITION;
+use layout::CONTROL;
+use layout::COUNT;
 use layout::ENTRIES;
+use layout::FIRED;
 use layout::FLAG;
 use layout::INPUT;
 use layout::MISSED;
@@ -17,9 +21,12 @@ use layout::MMU;
 use layout::OUTPUT;
 use layout::PC;
 use layout::PENDING;
+use layout::PERIOD;
 use layout::REGISTERS;
 use layout::REGS;
 use layout::SSP;
+use layout::TIMER0;
+use layout::TIMER1;
 use layout::TLB;
 use layout::USP;
 use layout::VIOLATION;
@@ -27,6 +34,8 @@ use machine::Condition;
 use machine::Ports;
 use machine::State;
 use status::Flags;
+use timer::Timer;
+use timer::Timers;
 
 fn condition_from(n: u8) -> Condition
     ensures { λ r. ⌜ r ≡ def.conditionFrom n ⌝ }
@@ -56,6 +65,18 @@ fn tlb_from(image: &[u8]) -> [u32; ENTRIES]
     tlb
 }
 
+fn timer_from(image: &[u8], at: usize) -> Timer
+    requires { ⌜ at + timerSize ≤ length (now image) ⌝ }
+    ensures { λ r. ⌜ r ≡ def.timerFrom (now (image .entry)) at ⌝ }
+{
+    Timer {
+        count: word_from(image, at + COUNT),
+        period: word_from(image, at + PERIOD),
+        control: word_from(image, at + CONTROL),
+        fired: word_from(image, at + FIRED) == 1,
+    }
+}
+
 // The state of an image.
 pub fn read_image(image: &[u8]) -> State
     requires { ⌜ length (now image) ≡ imageSize ⌝ }
@@ -74,6 +95,10 @@ pub fn read_image(image: &[u8]) -> State
         missed: image[MISSED],
     };
     let tlb = tlb_from(image);
+    let timers = Timers {
+        timer0: timer_from(image, TIMER0),
+        timer1: timer_from(image, TIMER1),
+    };
     State {
         regs,
         ssp: word_from(image, SSP),
@@ -86,5 +111,6 @@ pub fn read_image(image: &[u8]) -> State
         condition,
         fault,
         tlb,
+        timers,
     }
 }

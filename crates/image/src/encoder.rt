@@ -1,9 +1,10 @@
 // The image of a state.
 ghost use mathlib.Core.Path.{_≡_};
+ghost use Prim.Native.Nat.{_+_, _≤_};
 ghost use lib.ListN.{length};
 ghost use lib.Seq.{sets};
 ghost use Rattle.image.specs.Image as def;
-ghost use Rattle.layout.specs.Layout.{imageSize, sspAt};
+ghost use Rattle.layout.specs.Layout.{imageSize, sspAt, timerSize};
 ghost use Rattle.machine.specs.Answers.{conditionNumber};
 use endian::put_bytes;
 use endian::put_word;
@@ -12,10 +13,13 @@ use layout::CAUSE;
 use layout::INPUT;
 use layout::REGS;
 use layout::SSP;
+use layout::TIMER0;
+use layout::TIMER1;
 use layout::TLB;
 use layout::VIOLATION;
 use machine::Condition;
 use machine::State;
+use timer::Timer;
 
 fn condition_byte(condition: Condition) -> u8
     ensures { λ r. ⌜ r ≡ conditionNumber condition ⌝ }
@@ -50,6 +54,14 @@ fn put_between(image: &mut [u8], state: State)
     put_bytes(image, CAUSE, &last);
 }
 
+fn put_timer(image: &mut [u8], at: usize, timer: Timer)
+    requires { ⌜ at + timerSize ≤ length (now image) ⌝ }
+    ensures { λ _. ⌜ now (image .exit) ≡ sets (now (image .entry)) at (def.timerBytes timer) ⌝ }
+{
+    let words = [timer.count, timer.period, timer.control, timer.fired as u16];
+    put_words(image, at, &words);
+}
+
 // The image written over another.
 pub fn write_image(image: &mut [u8], state: State)
     requires { ⌜ length (now image) ≡ imageSize ⌝ }
@@ -60,4 +72,7 @@ pub fn write_image(image: &mut [u8], state: State)
     put_words(image, REGS, &regs);
     put_between(image, state);
     layout::put_entries(image, TLB, &tlb);
+    let timers = state.timers;
+    put_timer(image, TIMER0, timers.timer0);
+    put_timer(image, TIMER1, timers.timer1);
 }

@@ -10,13 +10,9 @@ use borrow.Author.Tests.{ne-eqb}
 use lib.Dec.{eqb}
 use lib.ListN.{getD, set}
 use Rattle.decode.specs.Code.{HALT}
-use Rattle.decode.specs.Decode.{firstOf, instructionOf}
-use Rattle.decode.specs.Laws.{guarded, plain, shape-guarded}
-use Rattle.decode.specs.declared.First.the-variants.{Defined}
+use Rattle.decode.specs.Decode.{instructionOf}
+use Rattle.decode.specs.Laws.{plain}
 use Rattle.decode.specs.declared.Instruction.{Instruction}
-use Rattle.decode.specs.declared.Privilege.{Privilege}
-use Rattle.decode.specs.declared.Privilege.the-variants.{Anyone, Kernel, Ports}
-use Rattle.decode.specs.declared.Shape.{Shape}
 use Rattle.machine.specs.Enter.{enterOf}
 use Rattle.machine.specs.Execute.{afterOperation, eventOf}
 use Rattle.machine.specs.Fault.{noted}
@@ -24,8 +20,8 @@ use Rattle.machine.specs.Flag.{flagOf}
 use Rattle.transfer.specs.Need.{addressOf, needOf, valueStored}
 use Rattle.machine.specs.Kept.{stored-long, transfer-keeps}
 use Rattle.machine.specs.PlanLaws.{Ways, end-by, plan-by}
-use Rattle.machine.specs.Plan.{permitted, planOf, planOperand, planTransfer, translates}
-use Rattle.status.specs.Flag.{permittedIn}
+use Rattle.machine.specs.Plain.{plain-here}
+use Rattle.machine.specs.Plan.{planOf, planOperand, planTransfer, translates}
 use Rattle.machine.specs.Register.{regOf, spOf, sspAfter, sspWith, withReg, withSp}
 use Rattle.machine.specs.State.{withPc, withTlb}
 use Rattle.machine.specs.Step.{commit, stepOf}
@@ -179,15 +175,6 @@ module _ (st : State) where
               rest-in (t .transfer) (transfer-in (translates s) (on s (near-user s n)) (s .tlb) m (n .rights) value need) s ins c held address following;
         }
 
-    allowed : (x : Privilege) (code : ℕ) → permittedIn x false false ≡ true → guarded x code ≡ true → plain code ≡ true
-    allowed Anyone code e g = g
-    allowed Ports code e g = absurd (false≢true e)
-    allowed Kernel code e g = absurd (false≢true e)
-
-    plain-here : (s : State) → Near s → (w : ℕ) (shape : Shape) → Defined shape ≡ firstOf w → permitted s (shape .privilege) ≡ true → plain (shape .code) ≡ true
-    plain-here s n w shape d e =
-        allowed (shape .privilege) (shape .code) (rw (n .privilege, n .ports ∙ u .noPorts) at e) (shape-guarded w shape d)
-
     ways : Ways m Near PlannedIn
     ways =
         record {
@@ -197,8 +184,8 @@ module _ (st : State) where
           second = λ s n why. record { near = n; plan = tt };
           undefined = λ s n. record { near = n; plan = tt };
           denied = λ s n. record { near = n; plan = tt };
-          short = λ s n w shape d e. operand-in s n (instructionOf shape 0) (plain-here s n w shape d e) (plus (s .pc) 2);
-          long = λ s n w shape d e at. operand-in s n (instructionOf shape _) (plain-here s n w shape d e) (plus (s .pc) 4);
+          short = λ s n w shape d e. operand-in s n (instructionOf shape 0) (plain-here s (n .privilege) (n .ports ∙ u .noPorts) w shape d e) (plus (s .pc) 2);
+          long = λ s n w shape d e at. operand-in s n (instructionOf shape _) (plain-here s (n .privilege) (n .ports ∙ u .noPorts) w shape d e) (plus (s .pc) 4);
         }
 
     -- ---- the step that carries it out

@@ -3,23 +3,30 @@
 use mathlib.Core.Bool.{Bool}
 use mathlib.Core.List.{List, [], _∷_}
 use mathlib.Core.Path.{refl, _∙_, _≡_}
-use Prim.Native.Nat.{ℕ, _<_}
+use Prim.Native.Nat.{ℕ, suc, zero, _+_, _<_}
+use native.Mathlib.Omega.{arith}
 use lib.Bits.{bitOr, or-lt}
 use lib.Dec.{eqb, ltb}
 use lib.ListN.{length, length-set, set}
 use Rattle.command.specs.Card.{readingOf}
 use Rattle.card.specs.Effect.{Effect, effectOf, executeOf}
-use Rattle.settings.specs.Settings.{withLines, withRegister}
+use Rattle.settings.specs.Settings.{afterMillisecond, afterTime, withLines, withRegister}
 use Rattle.command.specs.declared.Command.{Command}
-use Rattle.command.specs.declared.Command.the-variants.{Byte, Entry, Flag, Lines, Mmu, Register, Run}
+use Rattle.command.specs.declared.Command.the-variants.{Byte, Entry, Flag, Lines, Mmu, Register, Run, Time}
+use Rattle.layout.specs.TimerLaws.{count-good}
 use Rattle.machine.specs.Flag.{withFlag}
 use Rattle.machine.specs.State.{withMmu, withTlb}
 use Rattle.machine.specs.declared.State.{State}
 use Rattle.roundtrip.specs.Each.{each-set}
 use Rattle.roundtrip.specs.Runs.{run-memory-long, run-sound}
 use Rattle.roundtrip.specs.Statement.{Bytes, Each, EntryFits, GoodState, Ranged, Sound, Word, Zeros}
+use Rattle.roundtrip.specs.Timers.{GoodTimer, TimerFits}
 use Rattle.roundtrip.specs.Statement as range
+use Rattle.timer.specs.Laws.{lines-small, tick-by}
+use Rattle.timer.specs.Time.{linesRaised, raises, ticked}
+use Rattle.timer.specs.declared.Timer.{Timer}
 use Rattle.word.specs.Cases.{either}
+use Rattle.word.specs.Word.{wrap}
 use Rattle.joined.specs.Operands.{AllFit, Fits, card-fits}
 
 -- a sound state beside a memory of bytes of this length
@@ -71,6 +78,34 @@ module _ (st : State) (s : Sound st) where
       let r : Ranged st = s .ranged in
       record { good = search (g, g .zeros); ranged = search (r, r .words, r .entries) }
 
+-- 08: a millisecond keeps a timer's count below its period
+tick-sound : (t : Timer) → GoodTimer t × TimerFits t → GoodTimer (ticked t) × TimerFits (ticked t)
+tick-sound t h =
+    let g : GoodTimer t = h .0 in
+    let f : TimerFits t = h .1 in
+    tick-by (λ (x : Timer). GoodTimer x × TimerFits x) t h
+    (record { count = count-good 0 (wrap (t .period)) (omega arith); control = g .control }, record { count = omega arith; period = f .period; control = f .control })
+    (λ l. (
+      record { count = count-good (wrap (t .count + 1)) (wrap (t .period)) (omega (arith, f .period)); control = g .control },
+      record { count = omega (arith, f .period); period = f .period; control = f .control },
+    ))
+
+millisecond-sound : (st : State) → Sound st → Sound (afterMillisecond st)
+millisecond-sound st s =
+    let g : GoodState st = s .good in
+    let r : Ranged st = s .ranged in
+    let first = tick-sound (st .timers .timer0) (g .timers .0, r .clocks .0) in
+    let second = tick-sound (st .timers .timer1) (g .timers .1, r .clocks .1) in
+    let all : bitOr (st .pending) (linesRaised (st .timers)) < 1024 =
+    or-lt 10 (st .pending) (linesRaised (st .timers)) (g .lines) (omega (arith, lines-small (raises (st .timers .timer0)) (raises (st .timers .timer1))))
+    in
+    record { good = search (g, g .zeros, first .0, second .0); ranged = search (r, r .words, r .entries, first .1, second .1) }
+
+time-sound : (n : ℕ) (st : State) → Sound st → Sound (afterTime n st)
+unfolding afterTime
+time-sound zero st s = s
+time-sound (suc n) st s = time-sound n (afterMillisecond st) (millisecond-sound st s)
+
 module _ (long : ℕ) where
   -- what some commands leave
   abbrev Leaves : Effect → Type 0
@@ -90,6 +125,7 @@ module _ (long : ℕ) where
       record { sound = entry-sound st (k .sound) e bits (f .0) (f .1); bytes = k .bytes; sized = k .sized }
   act-keeps (Mmu on) f st m k = record { sound = mmu-sound st (k .sound) on; bytes = k .bytes; sized = k .sized }
   act-keeps (Flag w) f st m k = record { sound = flag-sound st (k .sound) w; bytes = k .bytes; sized = k .sized }
+  act-keeps (Time ms) f st m k = record { sound = time-sound ms st (k .sound); bytes = k .bytes; sized = k .sized }
 
   execute-keeps : (xs : List Command) → AllFit xs → (st : State) (m : List ℕ) → Kept long st m → Leaves (executeOf xs st m)
   unfolding executeOf

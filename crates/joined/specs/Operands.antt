@@ -13,7 +13,7 @@ use Rattle.command.specs.Card.{Reading, cardSize, readBy, readFrom, readingOf}
 use Rattle.command.specs.Command.{commandOf, goodOf, operandsOf, parsedOf}
 use Rattle.command.specs.Laws.{read-on}
 use Rattle.command.specs.declared.Command.{Command}
-use Rattle.command.specs.declared.Command.the-variants.{Byte, Entry, Flag, Lines, Mmu, Register, Run}
+use Rattle.command.specs.declared.Command.the-variants.{Byte, Entry, Flag, Lines, Mmu, Register, Run, Time}
 use Rattle.command.specs.declared.Parsed.{Parsed}
 use Rattle.command.specs.declared.Parsed.the-variants.{Bad, End, Next}
 use Rattle.layout.specs.Valid.{pendingGood, zerosGood}
@@ -32,6 +32,7 @@ Fits (Run n) = Unit {0}
 Fits (Entry k bits) = Zeros bits × EntryFits bits
 Fits (Mmu on) = Unit {0}
 Fits (Flag w) = Unit {0}
+Fits (Time ms) = Unit {0}
 
 abbrev pub AllFit : List Command → Type 0
 AllFit [] = Unit {0}
@@ -53,6 +54,7 @@ module _ (b : List ℕ) (small : Bytes b) where
       (λ h. tt)
       (λ h. let z : getD b 3 0 / 32 % 4 ≡ 0 = eqb-true _ _ (rest (ltb (byteFrom b 1) 8) _ h) in
       (omega (arith, small 4), omega (arith, small 2, small 3, small 4)))
+      (λ h. tt)
       (λ h. tt)
       (λ h. tt)
 

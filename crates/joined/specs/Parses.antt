@@ -41,6 +41,7 @@ module _ (b d : List ℕ) where
       ))
       (λ h. (cc (same 1 (omega arith)), cc (same 1 (omega arith))))
       (λ h. (cc (same 1 (omega arith), same 2 (omega arith)), cc (same 1 (omega arith), same 2 (omega arith))))
+      (λ h. (refl, cc (same 1 (omega arith), same 2 (omega arith))))
 
   pub parsed-before : (at : ℕ) (x : Command) (next : ℕ) → parsedOf at b ≡ Next x next → parsedOf at (b ++ d) ≡ Next x next
   parsed-before at x next e =

@@ -1,6 +1,7 @@
 -- The layout of a state image. Document 01, "Registers and state image": "Its state image is 68 bytes, upper byte first: 13 words G0-G11 and
 -- FP, SSP, USP, PC, FLAG, pending lines (word ...), input byte, output byte, MMU on (0/1), condition ..., violation address (word), cause
 -- (0-3), missed page, eight TLB entries of 3 bytes."
+-- Document 02, 2/14: "The image grows to 84 bytes, four words per timer at the end: count, period, control, fired (0/1)."
 -- Assumes nothing.
 use Prim.Native.Nat.{ℕ}
 
@@ -46,5 +47,27 @@ missedAt = 43
 abbrev pub tlbAt : ℕ
 tlbAt = 44
 
+abbrev pub timer0At : ℕ
+timer0At = 68
+
+abbrev pub timer1At : ℕ
+timer1At = 76
+
 abbrev pub imageSize : ℕ
-imageSize = 68
+imageSize = 84
+
+-- a timer's words, from its first byte on
+abbrev pub countIn : ℕ
+countIn = 0
+
+abbrev pub periodIn : ℕ
+periodIn = 2
+
+abbrev pub controlIn : ℕ
+controlIn = 4
+
+abbrev pub firedIn : ℕ
+firedIn = 6
+
+abbrev pub timerSize : ℕ
+timerSize = 8

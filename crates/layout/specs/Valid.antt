@@ -1,4 +1,5 @@
 -- Which images are good. Document 01, the table of refusals: "image field beyond its values: FLAG, pending, MMU, condition, cause, TLB zeros".
+-- Document 02, 2/14: "Refusal 2 now tests for 84 and refusal 3 covers control, fired, a count ...".
 -- Assumes nothing.
 use mathlib.Core.Bool.{Bool, cond, true, _&&_}
 use mathlib.Core.List.{List}
@@ -10,7 +11,7 @@ use Rattle.refusal.specs.declared.Cause.the-variants.{ImageField, ImageLength, 
 use Rattle.refusal.specs.declared.Validity.{Validity}
 use Rattle.refusal.specs.declared.Validity.the-variants.{Good}
 use Rattle.endian.specs.Bytes.{byteFrom, wordFrom}
-use Rattle.layout.specs.Layout.{causeAt, conditionAt, flagAt, imageSize, mmuAt, pendingAt, tlbAt}
+use Rattle.layout.specs.Layout.{causeAt, conditionAt, controlIn, countIn, firedIn, flagAt, imageSize, mmuAt, pendingAt, periodIn, timer0At, timer1At, tlbAt}
 
 -- "FLAG is 0000 0000 EPI0 VCSZ"
 unfoldable pub flagGood : ℕ → Bool
@@ -29,6 +30,21 @@ unfoldable pub allZeros : List ℕ → ℕ → ℕ → Bool
 allZeros b at zero = true
 allZeros b at (suc n) = zerosGood (getD b (at + 1) 0) && allZeros b (at + 3) n
 
+-- "control (bit 15 interrupt, bit 0 start, others stored as 0)": bits 14 to 1 are 0
+unfoldable pub controlGood : ℕ → Bool
+controlGood w = eqb (w % 32768 / 2) 0
+
+-- "a count not below a non-zero period, and a non-zero count with period 0" are beyond
+unfoldable pub countGood : ℕ → ℕ → Bool
+countGood count period = cond (eqb period 0) (eqb count 0) (ltb count period)
+
+-- "four words per timer ...: count, period, control, fired (0/1)": the timer at an offset, started or not
+unfoldable pub timerGood : List ℕ → ℕ → Bool
+timerGood b at =
+    countGood (wordFrom b (at + countIn)) (wordFrom b (at + periodIn))
+    && (controlGood (wordFrom b (at + controlIn))
+    && ltb (wordFrom b (at + firedIn)) 2)
+
 -- a good image: every field within its values
 unfoldable pub goodImage : List ℕ → Bool
 goodImage b =
@@ -37,7 +53,9 @@ goodImage b =
     && (ltb (byteFrom b mmuAt) 2
     && (ltb (byteFrom b conditionAt) 3
     && (ltb (byteFrom b causeAt) 4
-    && allZeros b tlbAt 8))))
+    && (allZeros b tlbAt 8
+    && (timerGood b timer0At
+    && timerGood b timer1At))))))
 
 -- the memory: refusal 1
 unfoldable pub memoryValid : ℕ → Validity

@@ -40,7 +40,11 @@ pub const MISSED: usize = 43;
 
 pub const TLB: usize = 44;
 
-pub const IMAGE: usize = 68;
+pub const TIMER0: usize = 68;
+
+pub const TIMER1: usize = 76;
+
+pub const IMAGE: usize = 84;
 
 // G0 to G11 and FP.
 pub const REGISTERS: usize = 13;
@@ -53,3 +57,12 @@ pub const ENTRY: usize = 3;
 pub const MIDDLE: usize = 1;
 
 pub const FRAME: usize = 2;
+
+// A timer: its four words.
+pub const COUNT: usize = 0;
+
+pub const PERIOD: usize = 2;
+
+pub const CONTROL: usize = 4;
+
+pub const FIRED: usize = 6;

@@ -1,18 +1,25 @@
 // The tests of memory and image.
 ghost use mathlib.Core.Path.{_≡_};
+ghost use Prim.Native.Nat.{_+_, _≤_};
 ghost use lib.ListN.{length};
-ghost use Rattle.layout.specs.Layout.{imageSize, tlbAt};
+ghost use Rattle.layout.specs.Layout.{imageSize, timerSize, tlbAt};
 ghost use Rattle.layout.specs.Valid as def;
 ghost use Rattle.refusal.specs.Refusal as said;
 use crate::CAUSE;
 use crate::CONDITION;
+use crate::CONTROL;
+use crate::COUNT;
 use crate::ENTRIES;
 use crate::ENTRY;
+use crate::FIRED;
 use crate::FLAG;
 use crate::IMAGE;
 use crate::MIDDLE;
 use crate::MMU;
 use crate::PENDING;
+use crate::PERIOD;
+use crate::TIMER0;
+use crate::TIMER1;
 use crate::TLB;
 use endian::word_from;
 use refusal::Cause;
@@ -54,6 +61,36 @@ fn all_zeros(image: &[u8]) -> bool
     good
 }
 
+// A timer's control within its values.
+fn control_good(w: u16) -> bool
+    ensures { λ r. ⌜ r ≡ def.controlGood w ⌝ }
+{
+    w % 32768 / 2 == 0
+}
+
+// A timer's count below its period, or 0 where that is 0.
+fn count_good(count: u16, period: u16) -> bool
+    ensures { λ r. ⌜ r ≡ def.countGood count period ⌝ }
+{
+    if period == 0 {
+        count == 0
+    } else {
+        count < period
+    }
+}
+
+// The timer at an offset.
+fn timer_good(image: &[u8], at: usize) -> bool
+    requires { ⌜ at + timerSize ≤ length (now image) ⌝ }
+    ensures { λ r. ⌜ r ≡ def.timerGood (now (image .entry)) at ⌝ }
+{
+    let count = word_from(image, at + COUNT);
+    let period = word_from(image, at + PERIOD);
+    let control = word_from(image, at + CONTROL);
+    let fired = word_from(image, at + FIRED);
+    count_good(count, period) & (control_good(control) & (fired < 2))
+}
+
 fn good_image(image: &[u8]) -> bool
     requires { ⌜ length (now image) ≡ imageSize ⌝ }
     ensures { λ r. ⌜ r ≡ def.goodImage (now (image .entry)) ⌝ }
@@ -61,7 +98,10 @@ fn good_image(image: &[u8]) -> bool
     flag_good(word_from(image, FLAG))
         & (pending_good(word_from(image, PENDING))
             & ((image[MMU] < 2)
-                & ((image[CONDITION] < 3) & ((image[CAUSE] < 4) & all_zeros(image)))))
+                & ((image[CONDITION] < 3)
+                    & ((image[CAUSE] < 4)
+                        & (all_zeros(image)
+                            & (timer_good(image, TIMER0) & timer_good(image, TIMER1)))))))
 }
 
 fn refused(cause: Cause) -> Validity

@@ -15,12 +15,12 @@ use Rattle.image.specs.Decode.{conditionFrom, stateFrom}
 use Rattle.image.specs.Image.{imageOf}
 use Rattle.layout.specs.Entries.{entryBytes}
 use Rattle.layout.specs.Layout.{imageSize, mmuAt, pcAt, regsAt, sspAt, tlbAt}
-use Rattle.layout.specs.Valid.{allZeros, flagGood, goodImage, imageValid, memoryValid, pendingGood, zerosGood}
+use Rattle.layout.specs.Valid.{allZeros, controlGood, countGood, flagGood, goodImage, imageValid, memoryValid, pendingGood, timerGood, zerosGood}
 use Rattle.look.specs.Call.{faultCall}
 use Rattle.machine.specs.Enter.{enterOf}
 use Rattle.machine.specs.Execute.{afterOperation, bodyOf, eventOf}
 use Rattle.machine.specs.Plan.{planFetch, planFirst, planOf, planOperand, planSecond}
-use Rattle.machine.specs.Ports.{portIn, recordAfterIn}
+use Rattle.machine.specs.Ports.{portElsewhere, recordAfterIn}
 use Rattle.machine.specs.Register.{regIn, regsAfter, spIn, sspAfter, uspAfter}
 use Rattle.machine.specs.Run.{runFrom, runOf}
 use Rattle.machine.specs.Step.{commit, stepOf}
@@ -35,6 +35,7 @@ use Rattle.report.specs.Report.{reportOf}
 use Rattle.status.specs.Flag.{flagWord}
 use Rattle.status.specs.Pending.{interruptIn}
 use Rattle.status.specs.Saved.{pushed}
+use Rattle.timer.specs.Port.{afterInAt, valueAt}
 use Rattle.transfer.specs.Need.{addressOf, needOf, valueStored}
 use Rattle.transfer.specs.Transfer.{transferOf}
 
@@ -84,9 +85,9 @@ pub record Looks : Type 0 where
   pub readAgain : wordFrom (secondIn .image) (regsAt + 4) ≡ 0
 
 pub worked-look : Looks
-unfolding image memory report fault firstIn secondIn faultCall runCall memoryValid imageValid goodImage flagGood pendingGood allZeros zerosGood reportFits
-    stateFrom conditionFrom reportOf imageOf wordBytes entryBytes runOf runFrom commit stepOf enterOf pushed flagWord
+unfolding image memory report fault firstIn secondIn faultCall runCall memoryValid imageValid goodImage flagGood pendingGood allZeros zerosGood timerGood
+    countGood controlGood reportFits stateFrom conditionFrom reportOf imageOf wordBytes entryBytes runOf runFrom commit stepOf enterOf pushed flagWord
     fieldsBad firstOf hasSecond operandOf usesRx eight inModes inRows modeBits opcodeOf row rows single accessOf alignedAccess byEntry byTlb lookupFrom lookupOf
     addressOf needOf valueStored transferOf endOf interruptIn planFetch planFirst planOf planOperand planSecond regIn spIn
-    afterOperation bodyOf eventOf portIn recordAfterIn regsAfter sspAfter uspAfter stored
+    afterOperation bodyOf eventOf portElsewhere valueAt recordAfterIn afterInAt regsAfter sspAfter uspAfter stored
 worked-look = record { number = refl; shown = refl; read = refl; gone = refl; readAgain = refl }

@@ -5,6 +5,7 @@ pub mod Fault
 pub mod Flag
 pub mod Kept
 pub mod Look
+pub mod Plain
 pub mod Plan
 pub mod PlanLaws
 pub mod Ports

@@ -1,4 +1,4 @@
--- Ports. Document 01, "MMU": "Ports: ...". A port is the whole 16-bit address.
+-- Ports. Document 01, "MMU": "Ports: ..."; document 02, 2/14. A port is the whole 16-bit address.
 -- Assumes nothing.
 use mathlib.Core.Bool.{Bool, cond, _&&_}
 use mathlib.Core.List.{List}
@@ -9,7 +9,9 @@ use Rattle.mmu.specs.Entry.{pageIn}
 use Rattle.word.specs.Word.{isSet, lower}
 use Rattle.fault.specs.Fault.{consumed}
 use Rattle.fault.specs.declared.FaultRecord.{FaultRecord}
-use Rattle.machine.specs.State.{withFault, withMmu, withOutput, withTlb}
+use Rattle.timer.specs.Port.{timersAfterIn, timersAfterOut, timersValue}
+use Rattle.timer.specs.declared.Timers.{Timers}
+use Rattle.machine.specs.State.{withFault, withMmu, withOutput, withTimers, withTlb}
 use Rattle.machine.specs.declared.State.{State}
 
 -- the input and the output byte
@@ -63,25 +65,29 @@ tlbPort tlb port = cond (isTlbPort port) (entryShown port (getD tlb (entryAt por
 -- What IN gives. "A2h: IN gives the violation address"; "A4h: IN gives the cause and clears it": it is the reader of the fault record that
 -- consumes; "A6h: IN gives the missed page"; "18h: IN input byte"; "Any other port, odd ones included, reads 0". Bytes have 0 in the upper
 -- half.
-unfoldable pub portIn : ℕ → FaultRecord → List ℕ → ℕ → ℕ
-portIn input fault tlb port =
+unfoldable pub portElsewhere : ℕ → FaultRecord → List ℕ → ℕ → ℕ
+portElsewhere input fault tlb port =
     cond (eqb port ioPort) input
     (cond (eqb port mmuPort) (fault .violation)
     (cond (eqb port causePort) ((consumed fault) .given .cause)
     (cond (eqb port missedPort) (fault .missed)
     (tlbPort tlb port))))
 
+-- with the timers' ports
+abbrev pub portIn : Timers → ℕ → FaultRecord → List ℕ → ℕ → ℕ
+portIn timers input fault tlb port = timersValue timers (portElsewhere input fault tlb port) port
+
 abbrev pub portValue : State → ℕ → ℕ
-portValue st port = portIn (st .ports .input) (st .fault) (st .tlb) port
+portValue st port = portIn (st .timers) (st .ports .input) (st .fault) (st .tlb) port
 
 -- the fault record after IN
 unfoldable pub recordAfterIn : FaultRecord → ℕ → FaultRecord
 recordAfterIn fault port = cond (eqb port causePort) ((consumed fault) .left) fault
 
 abbrev pub afterIn : State → ℕ → State
-afterIn st port = withFault st (recordAfterIn (st .fault) port)
+afterIn st port = withTimers (withFault st (recordAfterIn (st .fault) port)) (timersAfterIn (st .timers) port)
 
--- After OUT. "18h: ... OUT lower half to output byte"; A2h: "bit 0 of OUT switches the MMU"; the TLB's ports. "OUT to A4h and A6h is
+-- After OUT. The timers' ports; "18h: ... OUT lower half to output byte"; A2h: "bit 0 of OUT switches the MMU"; the TLB's ports. "OUT to A4h and A6h is
 -- dropped"; "Any other port ... drops writes".
 unfoldable pub outputAfter : ℕ → ℕ → ℕ → ℕ
 outputAfter output port v = cond (eqb port ioPort) (lower v) output
@@ -94,4 +100,6 @@ tlbAfter tlb port v = cond (isTlbPort port) (set tlb (entryAt port) (entryWritte
 
 abbrev pub afterOut : State → ℕ → ℕ → State
 afterOut st port v =
-    withTlb (withMmu (withOutput st (outputAfter (st .ports .output) port v)) (mmuAfter (st .mmu) port v)) (tlbAfter (st .tlb) port v)
+    withTimers
+    (withTlb (withMmu (withOutput st (outputAfter (st .ports .output) port v)) (mmuAfter (st .mmu) port v)) (tlbAfter (st .tlb) port v))
+    (timersAfterOut (st .timers) port v)

@@ -31,6 +31,7 @@ impl State {
         let ports = self.ports;
         let fault = self.fault;
         let tlb = self.tlb;
+        let timers = self.timers;
         State {
             regs,
             ssp: self.ssp,
@@ -43,6 +44,7 @@ impl State {
             condition,
             fault,
             tlb,
+            timers,
         }
     }
 

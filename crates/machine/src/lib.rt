@@ -14,6 +14,7 @@ use fault::FaultRecord;
 use plan::Plan;
 pub use run::states_of;
 use status::Flags;
+use timer::Timers;
 
 // The condition of a machine.
 pub enum Condition {
@@ -45,6 +46,7 @@ pub struct State {
     pub fault: FaultRecord,
     // TLB entries of 24 bits.
     pub tlb: [u32; 8],
+    pub timers: Timers,
 }
 
 // What a look at the fault record gives, and the state after it.

@@ -62,9 +62,9 @@ fn write_entry(mut tlb: [u32; 8], port: u16, v: u16) -> [u32; 8]
 }
 
 impl State {
-    // What IN gives.
-    pub(crate) fn port_value(self, port: u16) -> u16
-        ensures { λ r. ⌜ r ≡ def.portValue self port ⌝ }
+    // What IN gives where the port is no timer's.
+    fn port_elsewhere(self, port: u16) -> u16
+        ensures { λ r. ⌜ r ≡ def.portElsewhere (self .ports .input) (self .fault) (self .tlb) port ⌝ }
     {
         match port {
             IO => self.ports.input as u16,
@@ -82,10 +82,22 @@ impl State {
         }
     }
 
+    // What IN gives.
+    pub(crate) fn port_value(self, port: u16) -> u16
+        ensures { λ r. ⌜ r ≡ def.portValue self port ⌝ }
+    {
+        let timers = self.timers;
+        let elsewhere = self.port_elsewhere(port);
+        timers.port_value(elsewhere, port)
+    }
+
     // The state after IN.
     pub(crate) fn port_in(mut self, port: u16) -> State
         ensures { λ r. ⌜ r ≡ def.afterIn self port ⌝ }
     {
+        let timers = self.timers;
+        let read = timers.port_in(port);
+        self.timers = read;
         if port == CAUSE {
             let old = self.fault;
             let readout = old.consume();
@@ -100,6 +112,9 @@ impl State {
     pub(crate) fn port_out(mut self, port: u16, v: u16) -> State
         ensures { λ r. ⌜ r ≡ def.afterOut self port v ⌝ }
     {
+        let timers = self.timers;
+        let written = timers.port_out(port, v);
+        self.timers = written;
         match port {
             IO => {
                 let old = self.ports;

@@ -18,7 +18,7 @@ use Rattle.image.specs.Decode.{conditionFrom, stateFrom}
 use Rattle.layout.specs.Entries.{entryBytes}
 use Rattle.image.specs.Image.{imageOf}
 use Rattle.layout.specs.Layout.{imageSize, mmuAt, pcAt, sspAt, tlbAt}
-use Rattle.layout.specs.Valid.{allZeros, flagGood, goodImage, imageValid, memoryValid, pendingGood, zerosGood}
+use Rattle.layout.specs.Valid.{allZeros, controlGood, countGood, flagGood, goodImage, imageValid, memoryValid, pendingGood, timerGood, zerosGood}
 use Rattle.isolation.specs.Statement.{hasRight, visible}
 use Rattle.machine.specs.Enter.{enterOf}
 use Rattle.status.specs.Saved.{pushed}
@@ -130,7 +130,7 @@ given =
     }
 
 tested : runValid (length memory) image (length report) ≡ Good
-unfolding image report memoryValid imageValid goodImage flagGood pendingGood allZeros zerosGood reportFits
+unfolding image report memoryValid imageValid goodImage flagGood pendingGood allZeros zerosGood timerGood countGood controlGood reportFits
 tested = ap (λ (n : ℕ). runValid n image (length report)) memory-long
 
 -- ---- the calls
@@ -142,8 +142,8 @@ pair allowance = isolated-calls memory memory′ image allowance report (memory-
 pub entered :
     ((runCall memory image 9 report) .report ≡ 1 ∷ 15 ∷ 0 ∷ 1 ∷ 0 ∷ 0 ∷ 0 ∷ 12 ∷ 0x12 ∷ 0x02 ∷ 0 ∷ 0 ∷ [])
     × ((wordFrom ((runCall memory image 9 report) .image) pcAt ≡ 0) × (wordFrom ((runCall memory′ image 9 report) .image) pcAt ≡ 0x2000))
-unfolding image memory memory′ report runCall memoryValid imageValid goodImage flagGood pendingGood allZeros zerosGood reportFits stateFrom conditionFrom
-    reportOf imageOf wordBytes entryBytes runOf runFrom commit stepOf enterOf pushed flagWord
+unfolding image memory memory′ report runCall memoryValid imageValid goodImage flagGood pendingGood allZeros zerosGood timerGood
+    countGood controlGood reportFits stateFrom conditionFrom reportOf imageOf wordBytes entryBytes runOf runFrom commit stepOf enterOf pushed flagWord
     fieldsBad firstOf hasSecond usesRx eight inModes inRows modeBits opcodeOf row rows single accessOf alignedAccess byEntry byTlb lookupFrom lookupOf
     needOf transferOf endOf interruptIn planFetch planFirst planOf planOperand planSecond
 entered = (refl, (refl, refl))

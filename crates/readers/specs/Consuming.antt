@@ -10,17 +10,18 @@ use Rattle.fault.specs.declared.FaultRecord.{FaultRecord}
 use Rattle.machine.specs.Execute.{afterOperation, bodyOf}
 use Rattle.machine.specs.Kept.{plan-keeps}
 use Rattle.machine.specs.Plan.{planOf}
-use Rattle.machine.specs.Ports.{causePort, portIn, recordAfterIn}
+use Rattle.machine.specs.Ports.{causePort, portElsewhere, recordAfterIn}
 use Rattle.machine.specs.Register.{withReg}
 use Rattle.machine.specs.State.{withFault, withPc}
 use Rattle.machine.specs.Step.{commit, stepOf}
 use Rattle.machine.specs.declared.State.{State}
 use Rattle.plan.specs.declared.Operation.{Operation}
 use Rattle.plan.specs.declared.Plan.the-variants.{Perform}
+use Rattle.timer.specs.Port.{afterInAt, valueAt}
 use Rattle.readers.specs.Statement.{Consumes, InConsumes, LookIsIn}
 
 pub look-is-in : LookIsIn
-unfolding portIn recordAfterIn
+unfolding portElsewhere valueAt recordAfterIn afterInAt
 look-is-in st c m = (
   record {
     cause = omega arith;
@@ -40,7 +41,7 @@ fault-kept st m = plan-keeps (λ (s : State). s .fault ≡ st .fault) (λ s k ri
 body-in :
     (st : State) (op : Operation) → op .code ≡ IN → op .port ≡ causePort
     → bodyOf st op ≡ withReg (withFault st ((consumed (st .fault)) .left)) (op .rd) (st .fault .cause)
-unfolding bodyOf portIn recordAfterIn
+unfolding bodyOf portElsewhere valueAt recordAfterIn afterInAt
 body-in st op c port = rw (c, port)
 
 module _

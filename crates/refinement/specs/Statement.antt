@@ -33,6 +33,7 @@ hot b rs pc v c s z =
       condition = b .condition;
       fault = b .fault;
       tlb = b .tlb;
+      timers = b .timers;
     }
 
 abbrev pub hotState : State → List ℕ → Hot → State

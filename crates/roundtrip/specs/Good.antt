@@ -1,18 +1,20 @@
 -- Good states: the image of a good state is good, and a good image decodes to a good state.
 -- Assumes nothing.
-use mathlib.Core.Bool.{Bool, false, true}
+use mathlib.Core.Bool.{Bool, false, true, _&&_}
 use mathlib.Core.List.{List}
 use mathlib.Core.Path.{_≡_, refl, subst}
 use Prim.Native.Nat.{ℕ, suc, zero, _+_, _*_, _/_, _%_, _<_}
 use native.Mathlib.Omega.{arith}
 use borrow.Author.Tests.{eq-eqb, eqb-true, lt-ltb}
+use lib.Dec.{ltb}
 use lib.ListN.{getD, length}
 use mir.Val.{boolByte}
 use Rattle.layout.specs.Entries.{tlbEntriesFrom, entryBytes}
-use Rattle.image.specs.Decode.{stateFrom}
+use Rattle.image.specs.Decode.{stateFrom, timerFrom}
 use Rattle.image.specs.Image.{imageOf}
-use Rattle.layout.specs.Layout.{imageSize, tlbAt}
-use Rattle.layout.specs.Valid.{allZeros, flagGood, goodImage, pendingGood, zerosGood}
+use Rattle.layout.specs.Layout.{countIn, imageSize, periodIn, timer0At, timer1At, tlbAt}
+use Rattle.layout.specs.TimerLaws.{control-bits, control-good}
+use Rattle.layout.specs.Valid.{allZeros, controlGood, countGood, flagGood, goodImage, pendingGood, timerGood, zerosGood}
 use Rattle.machine.specs.Answers.{conditionNumber}
 use Rattle.status.specs.Flag.{flagWord, wordOf}
 use Rattle.machine.specs.Spelled.{spelled, whole}
@@ -21,11 +23,13 @@ use Rattle.machine.specs.declared.Condition.{Condition}
 use Rattle.machine.specs.declared.Condition.the-variants.{Halted, Lost, Running}
 use Rattle.status.specs.declared.Flags.{Flags}
 use Rattle.machine.specs.declared.State.{State}
-use Rattle.endian.specs.Bytes.{wordBytes}
+use Rattle.timer.specs.declared.Timer.{Timer}
+use Rattle.endian.specs.Bytes.{wordBytes, wordFrom}
 use Rattle.word.specs.Cases.{both, rest, this}
-use Rattle.word.specs.Word.{bit}
-use Rattle.roundtrip.specs.Images.{Fields, fields}
+use Rattle.word.specs.Word.{bit, wrap}
+use Rattle.roundtrip.specs.Images.{Fields, TimerFields, fields}
 use Rattle.roundtrip.specs.Statement.{Bytes, Each, GoodEncodes, GoodState, Word, Zeros}
+use Rattle.roundtrip.specs.Timers.{GoodTimer}
 
 -- ---- the image of a good state
 
@@ -91,12 +95,26 @@ zeros-good : (e : ℕ) → Zeros e → zerosGood (e / 256 % 256) ≡ true
 unfolding zerosGood
 zeros-good e h = eq-eqb (e / 256 % 256 / 32 % 4) 0 (omega arith)
 
+-- the words of a timer
+timer-good :
+    (t : Timer) → GoodTimer t
+    → (countGood (rejoined (t .count)) (rejoined (t .period)) && (controlGood (rejoined (t .control)) && ltb (rejoined (boolByte (t .fired))) 2)) ≡ true
+timer-good t g =
+    let words : (w : ℕ) → rejoined w ≡ wrap w = λ w. omega arith in
+    let bits : rejoined (t .control) % 32768 / 2 ≡ 0 = omega (arith, control-bits (t .control) (g .control)) in
+    let count : countGood (rejoined (t .count)) (rejoined (t .period)) ≡ true = rw (words (t .count), words (t .period)) (g .count) in
+    both _ _ count
+    (both _ _ (control-good (rejoined (t .control)) bits) (lt-ltb (rejoined (boolByte (t .fired))) 2 (omega (arith, bit-small (t .fired)))))
+
 pub good-encodes : GoodEncodes
-unfolding goodImage imageOf wordBytes entryBytes allZeros
+unfolding timerGood goodImage imageOf wordBytes entryBytes allZeros
 good-encodes st g = subst (λ (s : State). goodImage (imageOf s) ≡ true) (spelled-out st g) good
   where
     at : (k : ℕ) → zerosGood (getD (st .tlb) k 0 / 256 % 256) ≡ true
     at k = zeros-good (getD (st .tlb) k 0) (g .zeros k)
+
+    zeros : allZeros (imageOf (spelledOut st)) tlbAt 8 ≡ true
+    zeros = simp at
 
     good : goodImage (imageOf (spelledOut st)) ≡ true
     good =
@@ -105,7 +123,9 @@ good-encodes st g = subst (λ (s : State). goodImage (imageOf s) ≡ true) (spel
         (both _ _ (lt-ltb _ _ (bit-small (st .mmu)))
         (both _ _ (lt-ltb _ _ (condition-small (st .condition)))
         (both _ _ (lt-ltb _ _ (g .causes))
-        (simp at)))))
+        (both _ _ zeros
+        (both _ _ (timer-good (st .timers .timer0) (g .timers .0))
+        (timer-good (st .timers .timer1) (g .timers .1))))))))
 
 -- ---- the state of a good image
 
@@ -117,8 +137,20 @@ zeros-from b small (suc n) at h zero =
     omega (arith, small (at + 2))
 zeros-from b small (suc n) at h (suc k) = zeros-from b small n (at + 3) (rest (zerosGood (getD b (at + 1) 0)) _ h) k
 
+timer-decoded : (b : List ℕ) → Bytes b → (at : ℕ) → TimerFields b at → GoodTimer (timerFrom b at)
+timer-decoded b small at f =
+    let word : (k : ℕ) → wrap (wordFrom b k) ≡ wordFrom b k = λ k. omega (arith, small k, small (k + 1)) in
+    record { count = rw (word (at + countIn), word (at + periodIn)) (f .count); control = f .control }
+
 pub good-decoded : (b : List ℕ) → Bytes b → goodImage b ≡ true → GoodState (stateFrom b)
 unfolding stateFrom
 good-decoded b small g =
     let f : Fields b = fields b g in
-    record { thirteen = refl; lines = f .lines; causes = f .cause; eight = refl; zeros = zeros-from b small 8 tlbAt (f .zeros) }
+    record {
+      thirteen = refl;
+      lines = f .lines;
+      causes = f .cause;
+      eight = refl;
+      zeros = zeros-from b small 8 tlbAt (f .zeros);
+      timers = (timer-decoded b small timer0At (f .timer0), timer-decoded b small timer1At (f .timer1));
+    }

@@ -12,8 +12,22 @@ use mir.Val.{boolByte}
 use Rattle.image.specs.Decode.{conditionFrom, stateFrom}
 use Rattle.layout.specs.Entries.{entryBytes}
 use Rattle.image.specs.Image.{imageOf}
-use Rattle.layout.specs.Layout.{causeAt, conditionAt, flagAt, imageSize, mmuAt, pendingAt, tlbAt}
-use Rattle.layout.specs.Valid.{allZeros, flagGood, goodImage, pendingGood}
+use Rattle.layout.specs.Layout.{
+  causeAt,
+  conditionAt,
+  controlIn,
+  countIn,
+  firedIn,
+  flagAt,
+  imageSize,
+  mmuAt,
+  pendingAt,
+  periodIn,
+  timer0At,
+  timer1At,
+  tlbAt,
+}
+use Rattle.layout.specs.Valid.{allZeros, controlGood, countGood, flagGood, goodImage, pendingGood, timerGood}
 use Rattle.machine.specs.Answers.{conditionNumber}
 use Rattle.status.specs.Flag.{flagWord}
 use Rattle.machine.specs.Spelled.{spelled, whole}
@@ -25,6 +39,23 @@ use Rattle.roundtrip.specs.Statement.{Encoded}
 
 -- ---- the tests of an image
 
+-- the timer at an offset
+pub record TimerFields (b : List ℕ) (at : ℕ) : Type 0 where
+  pub count : countGood (wordFrom b (at + countIn)) (wordFrom b (at + periodIn)) ≡ true
+  pub control : controlGood (wordFrom b (at + controlIn)) ≡ true
+  pub fired : wordFrom b (at + firedIn) < 2
+
+timer-fields : (b : List ℕ) (at : ℕ) → timerGood b at ≡ true → TimerFields b at
+unfolding timerGood
+timer-fields b at g =
+    let counted = countGood (wordFrom b (at + countIn)) (wordFrom b (at + periodIn)) in
+    let g1 = rest counted _ g in
+    record {
+      count = this counted _ g;
+      control = this (controlGood (wordFrom b (at + controlIn))) _ g1;
+      fired = ltb-true _ _ (rest (controlGood (wordFrom b (at + controlIn))) _ g1);
+    }
+
 pub record Fields (b : List ℕ) : Type 0 where
   pub flag : wordFrom b flagAt < 256
   pub gap : wordFrom b flagAt / 16 % 2 ≡ 0
@@ -33,6 +64,8 @@ pub record Fields (b : List ℕ) : Type 0 where
   pub condition : byteFrom b conditionAt < 3
   pub cause : byteFrom b causeAt < 4
   pub zeros : allZeros b tlbAt 8 ≡ true
+  pub timer0 : TimerFields b timer0At
+  pub timer1 : TimerFields b timer1At
 
 pub fields : (b : List ℕ) → goodImage b ≡ true → Fields b
 unfolding goodImage flagGood pendingGood
@@ -42,6 +75,8 @@ fields b g =
     let g2 = rest (pendingGood (wordFrom b pendingAt)) _ g1 in
     let g3 = rest (ltb (byteFrom b mmuAt) 2) _ g2 in
     let g4 = rest (ltb (byteFrom b conditionAt) 3) _ g3 in
+    let g5 = rest (ltb (byteFrom b causeAt) 4) _ g4 in
+    let g6 = rest (allZeros b tlbAt 8) _ g5 in
     record {
       flag = ltb-true _ _ (this (ltb (wordFrom b flagAt) 256) _ g0);
       gap = eqb-true _ _ (rest (ltb (wordFrom b flagAt) 256) _ g0);
@@ -49,7 +84,9 @@ fields b g =
       mmu = ltb-true _ _ (this (ltb (byteFrom b mmuAt) 2) _ g2);
       condition = ltb-true _ _ (this (ltb (byteFrom b conditionAt) 3) _ g3);
       cause = ltb-true _ _ (this (ltb (byteFrom b causeAt) 4) _ g4);
-      zeros = rest (ltb (byteFrom b causeAt) 4) _ g4;
+      zeros = this (allZeros b tlbAt 8) _ g5;
+      timer0 = timer-fields b timer0At (this (timerGood b timer0At) _ g6);
+      timer1 = timer-fields b timer1At (rest (timerGood b timer0At) _ g6);
     }
 
 -- ---- the bytes of numbers
@@ -118,5 +155,5 @@ unfolding imageOf stateFrom wordBytes entryBytes
 encoded b long small g =
     let f : Fields b = fields b g in
     let e : imageOf (stateFrom b) ≡ spelled b 0 imageSize =
-    simp (flag-back _ (f .flag) (f .gap), bit-back _ (f .mmu), condition-back _ (f .condition), high, low, top, middle, bottom, small) in
+    simp (flag-back _ (f .flag) (f .gap), bit-back _ (f .mmu), condition-back _ (f .condition), bit-back _ (f .timer0 .fired), bit-back _ (f .timer1 .fired), high, low, top, middle, bottom, small) in
     e ∙ sym (whole b imageSize (omega arith))

@@ -7,3 +7,4 @@ pub mod RangedSteps
 pub mod Runs
 pub mod Statement
 pub mod Steps
+pub mod Timers

@@ -8,10 +8,10 @@ use Prim.Native.Nat.{ℕ, suc, zero, _+_, _*_, _/_, _%_, _<_}
 use native.Mathlib.Omega.{arith}
 use lib.Dec.{eqb}
 use mir.Val.{boolByte}
-use Rattle.image.specs.Decode.{conditionFrom, stateFrom}
+use Rattle.image.specs.Decode.{conditionFrom, stateFrom, timerFrom}
 use Rattle.layout.specs.Entries.{tlbEntriesFrom, entryBytes}
 use Rattle.image.specs.Image.{imageOf}
-use Rattle.layout.specs.Layout.{inputAt, missedAt, outputAt, pcAt, regsAt, sspAt, tlbAt, uspAt, violationAt}
+use Rattle.layout.specs.Layout.{inputAt, missedAt, outputAt, pcAt, regsAt, sspAt, timer0At, timer1At, tlbAt, uspAt, violationAt}
 use Rattle.machine.specs.Answers.{conditionNumber}
 use Rattle.machine.specs.Flag.{flagOf}
 use Rattle.machine.specs.declared.Condition.{Condition}
@@ -21,6 +21,7 @@ use Rattle.endian.specs.Bytes.{wordBytes, wordFrom, wordsFrom}
 use Rattle.roundtrip.specs.Each.{each-append, each-cons}
 use Rattle.roundtrip.specs.Good.{bit-small, condition-small, flag-bits, spelled-out, spelledOut, word-back}
 use Rattle.roundtrip.specs.Statement.{Byte, Bytes, Decoded, Each, EntryFits, GoodState, Ranged, Word}
+use Rattle.roundtrip.specs.Timers.{TimerFits}
 
 -- ---- the state of an image
 
@@ -38,6 +39,9 @@ module _ (b : List ℕ) (small : Bytes b) where
   entries-from (suc n) at zero = omega (arith, small at, small (at + 1), small (at + 2))
   entries-from (suc n) at (suc k) = entries-from n (at + 3) k
 
+  timer-from : (at : ℕ) → TimerFits (timerFrom b at)
+  timer-from at = record { count = word-from _; period = word-from _; control = word-from _ }
+
   pub ranged-decoded : Ranged (stateFrom b)
   unfolding stateFrom
   ranged-decoded =
@@ -51,6 +55,7 @@ module _ (b : List ℕ) (small : Bytes b) where
         refused = word-from violationAt;
         page = small missedAt;
         entries = entries-from 8 tlbAt;
+        clocks = (timer-from timer0At, timer-from timer1At);
       }
 
 -- ---- the bytes of an image
@@ -114,6 +119,8 @@ decoded st g r = subst (λ (s : State). stateFrom (imageOf s) ≡ s) (spelled-ou
         let f = flag-bits (st .flags) in
         let flag : Word (flagOf st) = omega (arith, f .0) in
         let lines : Word (st .pending) = omega (arith, g .lines) in
+        let fired0 : Word (boolByte (st .timers .timer0 .fired)) = omega (arith, bit-small (st .timers .timer0 .fired)) in
+        let fired1 : Word (boolByte (st .timers .timer1 .fired)) = omega (arith, bit-small (st .timers .timer1 .fired)) in
         simp (
           word-back,
           entry-back,
@@ -134,4 +141,12 @@ decoded st g r = subst (λ (s : State). stateFrom (imageOf s) ≡ s) (spelled-ou
           r .next,
           r .refused,
           r .entries,
+          fired0,
+          fired1,
+          r .clocks .0 .count,
+          r .clocks .0 .period,
+          r .clocks .0 .control,
+          r .clocks .1 .count,
+          r .clocks .1 .period,
+          r .clocks .1 .control,
         )

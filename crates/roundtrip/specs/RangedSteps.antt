@@ -18,7 +18,7 @@ use Rattle.machine.specs.Fault.{noted}
 use Rattle.machine.specs.Flag.{flagOf}
 use Rattle.machine.specs.Kept.{plan-keeps}
 use Rattle.machine.specs.Plan.{planOf}
-use Rattle.machine.specs.Ports.{causePort, entryAt, entryShown, entryWritten, ioPort, isPagePort, isTlbPort, outputAfter, portIn, portValue, recordAfterIn, tlbAfter, tlbPort}
+use Rattle.machine.specs.Ports.{causePort, entryAt, entryShown, entryWritten, ioPort, isPagePort, isTlbPort, outputAfter, portElsewhere, portValue, recordAfterIn, tlbAfter, tlbPort}
 use Rattle.machine.specs.Register.{regsAfter, sspAfter, sspWith, uspAfter, uspWith}
 use Rattle.machine.specs.State.{withPc}
 use Rattle.machine.specs.Step.{commit, stepOf}
@@ -33,6 +33,9 @@ use Rattle.mmu.specs.declared.Fault.{Fault}
 use Rattle.mmu.specs.declared.Fault.the-variants.{Missing, Odd, Refused}
 use Rattle.memory.specs.declared.Store.{Store}
 use Rattle.memory.specs.declared.Store.the-variants as store
+use Rattle.timer.specs.Laws.{in-by, out-by}
+use Rattle.timer.specs.Port.{afterInAt, afterOutAt, controlStored, firedWord, valueAt}
+use Rattle.timer.specs.declared.Timer.{Timer}
 use Rattle.word.specs.declared.Width.the-variants as width
 use Rattle.word.specs.Cases.{either}
 use Rattle.alu.specs.Laws.{addOf-fits, addsOf-fits, andOf-fits, divOf-fits, modOf-fits, mulOf-fits, orOf-fits, shlOf-fits, shraOf-fits, shrlOf-fits, subOf-fits, xorOf-fits}
@@ -43,6 +46,7 @@ use Rattle.roundtrip.specs.Each.{each-set}
 use Rattle.roundtrip.specs.Fits.{OperationFits, PlanFits, StoreFits, mark-ranged, plan-fits, word-either, word-fits}
 use Rattle.roundtrip.specs.Good.{flag-bits}
 use Rattle.roundtrip.specs.Statement.{Byte, Bytes, Each, EntryFits, EventFits, GoodState, Ranged, StepEvent, Word}
+use Rattle.roundtrip.specs.Timers.{TimerFits}
 use Rattle.roundtrip.specs.Steps.{plan-good}
 
 -- ---- numbers that an instruction replaces
@@ -89,10 +93,26 @@ tlb-after tlb port v h f =
     either (Each EntryFits) (isTlbPort port)
     (λ _. each-set EntryFits tlb (entryAt port) _ f (written-fits port _ v (f (entryAt port)) h)) (λ _. f)
 
+module _ (first : ℕ) (t : Timer) (port : ℕ) (f : TimerFits t) where
+  in-fits : TimerFits (afterInAt first t port)
+  in-fits = in-by TimerFits first t port f (search f)
+
+  out-fits : (v : ℕ) → Word v → TimerFits (afterOutAt first t port v)
+  out-fits v h =
+      let none : Word 0 = omega arith in
+      let stored : Word (controlStored v) = omega arith in
+      out-by TimerFits first t port f v (search f) (search f)
+
+  value-fits : (elsewhere : ℕ) → Word elsewhere → Word (valueAt first t elsewhere port)
+  unfolding valueAt
+  value-fits elsewhere h =
+      let fired : Word (firedWord t) = word-either (t .fired) 0x8000 0 (omega arith) (omega arith) in
+      search (f, word-either)
+
 -- ---- what an instruction makes
 
 port-fits : (st : State) → GoodState st → Ranged st → (port : ℕ) → Word (portValue st port)
-unfolding portIn tlbPort
+unfolding portElsewhere tlbPort
 port-fits st g r port =
     let input : Word (st .ports .input) = omega (arith, r .read) in
     let cause : Word (st .fault .cause) = omega (arith, g .causes) in
@@ -100,7 +120,7 @@ port-fits st g r port =
     let e : ℕ = getD (st .tlb) (entryAt port) 0 in
     let shown : Word (entryShown port e) = either Word (isPagePort port) (λ _. omega (arith, r .entries (entryAt port))) (λ _. omega arith) in
     let nothing : Word 0 = omega arith in
-    search (r .refused, word-either) depth 6
+    search (r .refused, r .clocks .0, r .clocks .1, value-fits, word-either) depth 7
 
 alu-either : (t : Bool) (x y : Alu) → Word (x .value) → Word (y .value) → Word ((cond t x y) .value)
 alu-either true x y p q = p
@@ -135,6 +155,8 @@ body-ranged st op g r f =
       fault .1,
       r .words,
       r .entries,
+      r .clocks .0,
+      r .clocks .1,
       f,
       ssp-with,
       usp-with,
@@ -143,6 +165,8 @@ body-ranged st op g r f =
       regs-after,
       output-after,
       tlb-after,
+      in-fits,
+      out-fits,
       wrap-fits,
       port-fits st g r,
       alu-fits,

@@ -14,6 +14,7 @@ use Rattle.machine.specs.Step.{stepOf}
 use Rattle.machine.specs.declared.Event.{Event}
 use Rattle.machine.specs.declared.Event.the-variants as event
 use Rattle.machine.specs.declared.State.{State}
+use Rattle.roundtrip.specs.Timers.{Both, GoodTimer, TimerFits}
 
 -- what holds of each element of a list, and of 0, which stands for the elements past its end
 abbrev pub Each : (ℕ → Type 0) → List ℕ → Type 0
@@ -44,6 +45,7 @@ pub record GoodState (st : State) : Type 0 where
   pub causes : st .fault .cause < 4
   pub eight : length (st .tlb) ≡ 8
   pub zeros : Each Zeros (st .tlb)
+  pub timers : Both GoodTimer (st .timers)
 
 -- Every number fits its field, but for those of which `GoodState` speaks.
 pub record Ranged (st : State) : Type 0 where
@@ -56,6 +58,7 @@ pub record Ranged (st : State) : Type 0 where
   pub refused : Word (st .fault .violation)
   pub page : Byte (st .fault .missed)
   pub entries : Each EntryFits (st .tlb)
+  pub clocks : Both TimerFits (st .timers)
 
 -- A good and ranged state.
 pub record Sound (st : State) : Type 0 where

@@ -8,6 +8,7 @@ use lib.Bits.{or-lt}
 use lib.Dec.{eqb, ltb}
 use lib.ListN.{getD, length, length-set}
 use Rattle.fault.specs.declared.FaultRecord.{FaultRecord}
+use Rattle.layout.specs.TimerLaws.{control-good, count-good}
 use Rattle.machine.specs.Enter.{Outcome, enterOf}
 use Rattle.machine.specs.Execute.{afterOperation, bodyOf}
 use Rattle.machine.specs.Fault.{noted}
@@ -26,9 +27,14 @@ use Rattle.mmu.specs.Marks.{like-zeros, marked-like}
 use Rattle.mmu.specs.declared.Fault.{Fault}
 use Rattle.mmu.specs.declared.Fault.the-variants.{Missing, Odd, Refused}
 use Rattle.mmu.specs.declared.Right.{Right}
+use Rattle.timer.specs.Laws.{in-by, out-by}
+use Rattle.timer.specs.Port.{afterInAt, afterOutAt, controlStored}
+use Rattle.timer.specs.declared.Timer.{Timer}
 use Rattle.word.specs.Cases.{either}
+use Rattle.word.specs.Word.{wrap}
 use Rattle.roundtrip.specs.Each.{each-set}
 use Rattle.roundtrip.specs.Statement.{Each, GoodState, Zeros}
+use Rattle.roundtrip.specs.Timers.{GoodTimer}
 
 -- ---- the plan
 
@@ -40,6 +46,7 @@ mark-good st k right g =
       causes = g .causes;
       eight = length-set (st .tlb) k _ ∙ g .eight;
       zeros = each-set Zeros (st .tlb) k _ (g .zeros) (like-zeros (marked-like right _) ∙ g .zeros k);
+      timers = g .timers;
     }
 
 pub plan-good : (st : State) (m : List ℕ) → GoodState st → GoodState ((planOf st m) .state)
@@ -70,8 +77,18 @@ module _ (tlb : List ℕ) (port v : ℕ) where
       either (Each Zeros) (isTlbPort port)
       (λ _. each-set Zeros tlb (entryAt port) _ h (written-zeros port (getD tlb (entryAt port) 0) v (h (entryAt port)))) (λ _. h)
 
+-- IN and OUT keep a timer good: a period that is set zeroes the count
+module _ (first : ℕ) (t : Timer) (port : ℕ) (g : GoodTimer t) where
+  in-good : GoodTimer (afterInAt first t port)
+  in-good = in-by GoodTimer first t port g (record { count = g .count; control = g .control })
+
+  out-good : (v : ℕ) → GoodTimer (afterOutAt first t port v)
+  out-good v =
+      out-by GoodTimer first t port g v (record { count = count-good 0 (wrap v) (omega arith); control = g .control })
+      (record { count = g .count; control = control-good (controlStored v) (omega arith) })
+
 body-good : (st : State) (op : Operation) → GoodState st → GoodState (bodyOf st op)
-body-good st op g = body-by GoodState st op (search (g, g .zeros, regs-long, cause-small, out-long, out-zeros) fits 20000)
+body-good st op g = body-by GoodState st op (search (g, g .zeros, regs-long, cause-small, out-long, out-zeros, in-good, out-good) fits 20000)
 
 -- ---- the step
 

@@ -1,12 +1,13 @@
--- What the commands 02 and 03 of a card set. Document 01, "Bench card and its listing".
+-- What the commands 02, 03 and 08 of a card do to the state. Document 01, "Bench card and its listing"; document 02, 2/14.
 -- Assumes nothing.
 use mathlib.Core.Bool.{cond}
-use Prim.Native.Nat.{ℕ}
+use Prim.Native.Nat.{suc, zero, ℕ}
 use lib.Bits.{bitOr}
 use lib.Dec.{eqb, ltb}
 use lib.ListN.{set}
-use Rattle.machine.specs.State.{withPc, withPending, withPorts, withRegs, withStack}
+use Rattle.machine.specs.State.{withPc, withPending, withPorts, withRegs, withStack, withTimers}
 use Rattle.machine.specs.declared.State.{State}
+use Rattle.timer.specs.Time.{linesRaised, timersTicked}
 
 -- "02 register 0-15 (1; 13 is SSP), value(2)": 13 is SSP whatever P is, 14 USP, 15 PC
 unfoldable pub withRegister : State → ℕ → ℕ → State
@@ -20,3 +21,12 @@ withRegister st n v =
 abbrev pub withLines : State → ℕ → ℕ → State
 withLines st lines byte =
     withPorts (withPending st (bitOr (st .pending) lines)) (record { input = byte; output = st .ports .output })
+
+-- a millisecond of both timers: "line 0 or 1 is raised"
+abbrev pub afterMillisecond : State → State
+afterMillisecond st = withTimers (withPending st (bitOr (st .pending) (linesRaised (st .timers)))) (timersTicked (st .timers))
+
+-- "08 ... milliseconds": one after the other
+unfoldable pub afterTime : ℕ → State → State
+afterTime zero st = st
+afterTime (suc n) st = afterTime n (afterMillisecond st)

@@ -1,4 +1,4 @@
-// What the commands 02, 03, 05 and 06 of a card set in the state.
+// What the commands 02, 03, 05, 06 and 08 of a card do to the state.
 ghost use mathlib.Core.Path.{_≡_};
 ghost use lib.ListN.{set};
 ghost use Rattle.machine.specs.State.{withMmu, withTlb};
@@ -56,5 +56,17 @@ pub fn set_mmu(mut state: State, on: bool) -> State
     ensures { λ r. ⌜ r ≡ withMmu state on ⌝ }
 {
     state.mmu = on;
+    state
+}
+
+// 08: milliseconds pass.
+pub fn pass_time(mut state: State, ms: u16) -> State
+    ensures { λ r. ⌜ r ≡ def.afterTime ms state ⌝ }
+{
+    let old = state.timers;
+    let passed = old.pass(ms);
+    let timers = passed.timers;
+    state.pending = state.pending | passed.lines;
+    state.timers = timers;
     state
 }

@@ -31,6 +31,7 @@ fn is_run(command: Command) -> usize
         Command::Entry(_, _) => 0,
         Command::Mmu(_) => 0,
         Command::Flag(_) => 0,
+        Command::Time(_) => 0,
     }
 }
 

@@ -1,3 +1,4 @@
+pub mod Bits
 pub mod Cases
 pub mod Laws
 pub mod Signed

@@ -18,7 +18,7 @@ use Rattle.transfer.specs.Need.{addressOf, loadNeed, needOf, valueStored}
 use Rattle.machine.specs.Plan.{planFetch, planFirst, planOf, planOperand, planSecond}
 use Rattle.status.specs.Pending.{interruptIn}
 use Rattle.plan.specs.End.{endOf}
-use Rattle.machine.specs.Ports.{mmuAfter, outputAfter, portIn, recordAfterIn, tlbAfter, tlbPort}
+use Rattle.machine.specs.Ports.{mmuAfter, outputAfter, portElsewhere, recordAfterIn, tlbAfter, tlbPort}
 use Rattle.machine.specs.Register.{regIn, regsAfter, spIn, sspAfter, sspWith, uspAfter, uspWith}
 use Rattle.machine.specs.Step.{commit, stepOf}
 use Rattle.transfer.specs.Transfer.{transferOf}
@@ -28,21 +28,24 @@ use Rattle.mmu.specs.Lookup.{lookupFrom, lookupOf}
 use Rattle.memory.specs.Memory.{stored}
 use Rattle.alu.specs.Alu.{addOf, addsOf, andOf, divOf, modOf, mulOf, orOf, shlOf, shraOf, shrlOf, subOf, xorOf}
 use Rattle.jump.specs.Jump.{conditionOf, conditionUndefined}
+use Rattle.timer.specs.Port.{afterInAt, afterOutAt, valueAt}
 use Rattle.word.specs.Signed.{signed4}
 use Rattle.worked.specs.Fields.{valueOf, valuesOf}
 use Rattle.worked.specs.Further.{entries, misreadings, pages, results}
 use Rattle.worked.specs.Rows.{Row, expected, memoryOf, starred, stateOf, stepped, vectorsFrom}
+use Rattle.worked.specs.Timers.{timers}
 
 abbrev pub all : List Row
-all = starred ++ misreadings ++ results ++ pages ++ entries
+all = starred ++ misreadings ++ results ++ pages ++ entries ++ timers
 
 pub examples : map stepped all ≡ map expected all
-unfolding starred misreadings results pages entries memoryOf stateOf conditionFrom valueOf valuesOf vectorsFrom
+unfolding starred misreadings results pages entries timers memoryOf stateOf conditionFrom valueOf valuesOf vectorsFrom
     addOf addsOf andOf divOf modOf mulOf orOf shlOf shraOf shrlOf subOf xorOf conditionOf conditionUndefined signed4
     fieldsBad firstOf hasSecond operandOf usesRx addStates costOf divStates eight inModes inRows modeBits opcodeOf row rows shiftStates single statesAt
     enterOf pushed afterOperation aluOf bodyOf eventOf flagWord stored accessOf alignedAccess byEntry byTlb lookupFrom lookupOf transferOf
     addressOf loadNeed needOf valueStored endOf interruptIn planFetch planFirst planOf planOperand planSecond trailingZeros
-    mmuAfter outputAfter portIn recordAfterIn tlbAfter tlbPort regIn regsAfter spIn sspAfter sspWith uspAfter uspWith commit stepOf
+    mmuAfter outputAfter portElsewhere recordAfterIn tlbAfter tlbPort afterInAt afterOutAt valueAt
+    regIn regsAfter spIn sspAfter sspWith uspAfter uspWith commit stepOf
 examples = refl
 
 -- ---- states of events

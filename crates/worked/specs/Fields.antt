@@ -63,6 +63,31 @@ ENTRY = 25
 abbrev pub ENTRY1 : ℕ
 ENTRY1 = 26
 
+-- the words of Timer0 and of Timer1
+abbrev pub COUNT0 : ℕ
+COUNT0 = 33
+
+abbrev pub PERIOD0 : ℕ
+PERIOD0 = 34
+
+abbrev pub CONTROL0 : ℕ
+CONTROL0 = 35
+
+abbrev pub FIRED0 : ℕ
+FIRED0 = 36
+
+abbrev pub COUNT1 : ℕ
+COUNT1 = 37
+
+abbrev pub PERIOD1 : ℕ
+PERIOD1 = 38
+
+abbrev pub CONTROL1 : ℕ
+CONTROL1 = 39
+
+abbrev pub FIRED1 : ℕ
+FIRED1 = 40
+
 -- the first value that is set for a field, or 0
 unfoldable pub valueOf : List Setting → ℕ → ℕ
 valueOf [] n = 0

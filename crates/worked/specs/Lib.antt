@@ -2,3 +2,4 @@ pub mod Examples
 pub mod Fields
 pub mod Further
 pub mod Rows
+pub mod Timers

@@ -11,7 +11,8 @@ use Rattle.machine.specs.declared.Event.{Event}
 use Rattle.machine.specs.declared.Event.the-variants.{Entered, Executed}
 use Rattle.machine.specs.declared.State.{State}
 use Rattle.word.specs.Word.{isSet, lower, upper}
-use Rattle.worked.specs.Fields.{CAUSE, CONDITION, ENTRY, FLAG, FP, G0, G1, INPUT, MISSED, MMU, OUTPUT, PC, PENDING, SSP, USP, VIOLATION, Setting, valueOf, valuesOf, _≔_}
+use Rattle.worked.specs.Fields.{CAUSE, CONDITION, ENTRY, FLAG, FP, G0, G1, INPUT, MISSED, MMU, OUTPUT, PC, PENDING, SSP, USP, VIOLATION}
+use Rattle.worked.specs.Fields.{CONTROL0, CONTROL1, COUNT0, COUNT1, FIRED0, FIRED1, PERIOD0, PERIOD1, Setting, valueOf, valuesOf, _≔_}
 
 -- ---- a row
 
@@ -30,6 +31,11 @@ stateOf xs =
       condition = conditionFrom (valueOf xs CONDITION);
       fault = record { violation = valueOf xs VIOLATION; cause = valueOf xs CAUSE; missed = valueOf xs MISSED };
       tlb = valuesOf xs ENTRY 8;
+      timers =
+          record {
+            timer0 = record { count = valueOf xs COUNT0; period = valueOf xs PERIOD0; control = valueOf xs CONTROL0; fired = isSet 0 (valueOf xs FIRED0) };
+            timer1 = record { count = valueOf xs COUNT1; period = valueOf xs PERIOD1; control = valueOf xs CONTROL1; fired = isSet 0 (valueOf xs FIRED1) };
+          };
     }
 
 -- the vectors of `n` numbers from `k` on: that of k holds 2000h + 10h × k

@@ -1,6 +1,6 @@
 //! Sets libtac.a beside the emulator of this package, byte for byte.
 //!
-//! compare [--factor N] [--seed N] [--part words|runs|cards|looks|pairs|scenarios] [--scenario NAME] [--verbose 1]
+//! compare [--factor N] [--seed N] [--part words|runs|cards|timers|looks|pairs|scenarios] [--scenario NAME] [--verbose 1]
 //! compare --replay FILE
 //!
 //! The parts run side by side. With `--verbose 1` each case is named before it is tried, for a crash. `--replay` does the case again that a text
@@ -16,12 +16,13 @@ use tac_tests::ffi::{self, LIBRARY};
 use tac_tests::generate::Maker;
 use tac_tests::isolation::{self, After, Pair};
 use tac_tests::looks::{self, Looks, Seen};
+use tac_tests::met::Met;
 use tac_tests::program::Ground;
 use tac_tests::replay::{parse, Replay};
 use tac_tests::report::{ENDING, NUMBER, REPORT};
 use tac_tests::rng::Rng;
 use tac_tests::scenarios::SCENARIOS;
-use tac_tests::{image, sample};
+use tac_tests::{image, met, sample};
 
 /// Held by the part that prints a difference and then ends the program.
 static FOUND: Mutex<()> = Mutex::new(());
@@ -31,6 +32,7 @@ const BOTH: [Emulator; 2] = [OWN, LIBRARY];
 const ROUNDS: u64 = 2;
 const RUNS: u64 = 300_000;
 const CARDS: u64 = 150_000;
+const TIMES: u64 = 40_000;
 const LOOKS: u64 = 15_000;
 const PAIRS: u64 = 60_000;
 /// Cases of each scenario.
@@ -38,8 +40,15 @@ const EACH: u64 = 8_000;
 
 /// A part's name, and what does it and gives its text.
 type Part = (&'static str, fn(&Arguments) -> String);
-const PARTS: [Part; 6] =
-    [("words", words), ("runs", runs), ("cards", cards), ("looks", looks), ("pairs", pairs), ("scenarios", scenarios)];
+const PARTS: [Part; 7] = [
+    ("words", words),
+    ("runs", runs),
+    ("cards", cards),
+    ("timers", timers),
+    ("looks", looks),
+    ("pairs", pairs),
+    ("scenarios", scenarios),
+];
 
 struct Arguments {
     factor: u64,
@@ -51,7 +60,7 @@ struct Arguments {
 }
 
 const USAGE: &str =
-    "usage: compare [--factor N] [--seed N] [--part words|runs|cards|looks|pairs|scenarios] [--verbose 1]
+    "usage: compare [--factor N] [--seed N] [--part words|runs|cards|timers|looks|pairs|scenarios] [--verbose 1]
        compare [--factor N] [--seed N] --scenario NAME
        compare --replay FILE";
 
@@ -106,6 +115,9 @@ struct Count {
     at_once: u64,
     /// Looks by the cause that they gave.
     looks: [u64; 4],
+    /// Cases that come to the timers' ports, in which a timer fires, and raises its line.
+    timers: [u64; 3],
+    met: Met,
 }
 
 impl Count {
@@ -119,6 +131,15 @@ impl Count {
         }
         self.steps += steps;
         self.long += (steps >= 100) as u64;
+    }
+
+    /// What timers met since the last case, on this thread.
+    fn timers(&mut self) {
+        let met = met::take();
+        for (count, holds) in self.timers.iter_mut().zip([met.ports(), met.fired(), met.raised()]) {
+            *count += holds as u64;
+        }
+        self.met += met;
     }
 
     /// The number that a look gave.
@@ -160,6 +181,10 @@ impl Count {
         for (what, counts) in lists.iter().filter(|(_, counts)| counts.iter().any(|n| *n != 0)) {
             text += &format!("  {what}: {}\n", list(counts));
         }
+        let [ports, fired, raised] = self.timers;
+        if self.timers != [0; 3] {
+            text += &format!("  cases with ports 00h to 07h {ports}, with a firing {fired}, with its line {raised}\n");
+        }
         text
     }
 }
@@ -183,6 +208,7 @@ impl Bench {
             eprintln!("{}", place());
         }
         perform(&OWN, case, &mut self.own);
+        count.timers();
         perform(&LIBRARY, case, &mut self.library);
         if self.own != self.library {
             let found = difference(&self.own, &self.library).unwrap_or_default();
@@ -260,6 +286,7 @@ fn word_state(rng: &mut Rng, machine: &mut Machine, ground: &Ground, pages: &[u8
     machine.cause = rng.below(4) as u8;
     machine.missed = rng.byte();
     machine.input = rng.byte();
+    machine.timers = sample::timers(rng);
 }
 
 /// Where the word at PC + d lies, for the program's own page.
@@ -296,6 +323,18 @@ fn cards(args: &Arguments) -> String {
     count.text("cards", start)
 }
 
+/// Cards of times and runs. Everything that can happen to a timer has to happen to both.
+fn timers(args: &Arguments) -> String {
+    let (start, mut count, mut maker) = (Instant::now(), Count::default(), Maker::new());
+    random(args, "timers", 46, TIMES, &mut count, &mut |rng, case| maker.time_case(rng, case));
+    let lacking = count.met.lacking();
+    if !lacking.is_empty() {
+        println!("timers: this never happened: {}", lacking.join("; "));
+        exit(1);
+    }
+    count.text("timers", start) + &count.met.text()
+}
+
 /// Each scenario in turn.
 fn scenarios(args: &Arguments) -> String {
     let (start, mut count) = (Instant::now(), Count::default());
@@ -324,6 +363,7 @@ fn looks(args: &Arguments) -> String {
                 count.cases += 1;
                 count.run(&report);
                 count.look(look);
+                count.timers();
                 if report[ENDING] == 1 {
                     after[report[NUMBER] as usize][(look >> 24) as usize] += 1;
                 }

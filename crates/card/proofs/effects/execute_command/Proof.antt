@@ -33,8 +33,8 @@ run-with-report-requires c κs =
     let start = c .before .before .before .before .before .before .before in
     (start .pre .0, rw (c .before .before .before .command4 .given .1) at (start .pre .1), start .pre .2)
 
-add-t29 : tie.Need-add-t29
-add-t29 c = search needs
+add-t30 : tie.Need-add-t30
+add-t30 c = search needs
 
 enum-known-command-5 : tie.Need-enum-known-command-5
 enum-known-command-5 c = search needs
@@ -53,6 +53,12 @@ enum-known-command-7 c = search needs
 
 load-flag-requires : tie.Need-load-flag-requires
 load-flag-requires c κs = search needs
+
+enum-known-command-8 : tie.Need-enum-known-command-8
+enum-known-command-8 c = search needs
+
+pass-time-requires : tie.Need-pass-time-requires
+pass-time-requires c κs = search needs
 
 same-length : tie.Need-same-length
 same-length c = search needs
@@ -106,6 +112,12 @@ returns-7 c =
     let start = c .before .before .before .before .before .before .args in
     silent (start .state) (start .memory .now) (start .report .now) (start .filled) (c .before .before .command7 .given .1) refl (rw (c .load-flag .ensures))
 
+returns-8 : tie.Need-returns-8
+unfolding effectOf
+returns-8 c =
+    let start = c .before .before .before .before .before .before .args in
+    silent (start .state) (start .memory .now) (start .report .now) (start .filled) (c .before .before .command8 .given .1) refl (rw (c .pass-time .ensures))
+
 pub execute-command-spec : {M : Type 1} → statement M
 execute-command-spec =
     tie.close
@@ -118,13 +130,15 @@ execute-command-spec =
     add-lines-requires
     enum-known-command-4
     run-with-report-requires
-    add-t29
+    add-t30
     enum-known-command-5
     set-entry-requires
     enum-known-command-6
     set-mmu-requires
     enum-known-command-7
     load-flag-requires
+    enum-known-command-8
+    pass-time-requires
     same-length
     returns
     returns-2
@@ -134,4 +148,5 @@ execute-command-spec =
     returns-4
     returns-5
     returns-6
-    returns-7)
+    returns-7
+    returns-8)

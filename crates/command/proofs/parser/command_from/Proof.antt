@@ -3,7 +3,6 @@
 use mathlib.Core.Path.{ap, refl, _∙_, _≡_}
 use native.Mathlib.Omega.{arith}
 use borrow.Author.Needs.{needs}
-use borrow.Author.Tests.{ne-eqb}
 use Rattle.command.specs.Command.{commandNumber, commandOf, operandsOf}
 use Rattle.command.specs.Laws.{numbered}
 use Rattle.command.specs.declared.Command.{Command}
@@ -50,13 +49,13 @@ shared-slice-read-t18 c = search needs
 
 word-from-requires-5 : tie.Need-word-from-requires-5
 unfolding operandsOf
-word-from-requires-5 c κs =
+word-from-requires-5 c κs = omega (arith, room _ 7 2 _ (c .match .keys7) refl (c .before .before .pre .0))
+
+word-from-requires-6 : tie.Need-word-from-requires-6
+unfolding operandsOf
+word-from-requires-6 c κs =
     let start = c .before .before in
-    let other = c .match .rest in
-    let flag =
-    last (start .args .number) (start .pre .1) (other .0 .0 .0 .0 .0 .1) (other .0 .0 .0 .0 .1) (other .0 .0 .0 .1) (other .0 .0 .1) (other .0 .1)
-    (other .1) in
-    omega (arith, room _ 7 2 _ flag refl (start .pre .0))
+    omega (arith, room _ 8 2 _ (last (start .args .number) (start .pre .1) (c .match .rest)) refl (start .pre .0))
 
 -- the command is the one of the definition, so its number is the byte
 both :
@@ -90,18 +89,13 @@ returns-6 c = both (c .before .before .before) _ (rw (c .before .match .keys6))
 
 returns-7 : tie.Need-returns-7
 unfolding commandOf
-returns-7 c =
-    let other = c .before .match .rest in
-    both (c .before .before .before) _
-    (rw (
-      ne-eqb _ _ (other .0 .0 .0 .0 .0 .1),
-      ne-eqb _ _ (other .0 .0 .0 .0 .1),
-      ne-eqb _ _ (other .0 .0 .0 .1),
-      ne-eqb _ _ (other .0 .0 .1),
-      ne-eqb _ _ (other .0 .1),
-      ne-eqb _ _ (other .1),
-      ← c .word-from5 .ensures,
-    ))
+returns-7 c = both (c .before .before .before) _ (rw (c .before .match .keys7, ← c .word-from5 .ensures))
+
+returns-8 : tie.Need-returns-8
+unfolding commandOf
+returns-8 c =
+    let start = c .before .before .before in
+    both start _ (rw (last (start .args .number) (start .pre .1) (c .before .match .rest), ← c .word-from6 .ensures))
 
 pub command-from-spec : {M : Type 1} → statement M
 command-from-spec =
@@ -118,10 +112,12 @@ command-from-spec =
     entry-from-requires
     shared-slice-read-t18
     word-from-requires-5
+    word-from-requires-6
     returns
     returns-2
     returns-3
     returns-4
     returns-5
     returns-6
-    returns-7)
+    returns-7
+    returns-8)

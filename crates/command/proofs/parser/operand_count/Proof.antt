@@ -1,7 +1,8 @@
 -- `command::parser::operand_count` meets its contract.
 -- Assumes nothing.
-use borrow.Author.Tests.{ne-eqb}
+use mathlib.Core.Path.{sym}
 use Rattle.command.specs.Command.{operandsOf}
+use Rattle.command.proofs.Operands.{none}
 use Rattle.command.proofs.parser.operand_count.Statement.{statement}
 use Rattle.command.proofs.parser.operand_count.Tie as tie
 
@@ -35,19 +36,12 @@ returns-7 c = rw (c .match .keys7)
 
 returns-8 : tie.Need-returns-8
 unfolding operandsOf
-returns-8 c =
-    let other = c .match .rest in
-    rw (
-      ne-eqb _ _ (other .0 .0 .0 .0 .0 .0 .1),
-      ne-eqb _ _ (other .0 .0 .0 .0 .0 .1),
-      ne-eqb _ _ (other .0 .0 .0 .0 .1),
-      ne-eqb _ _ (other .0 .0 .0 .1),
-      ne-eqb _ _ (other .0 .0 .1),
-      ne-eqb _ _ (other .0 .1),
-      ne-eqb _ _ (other .1),
-    )
+returns-8 c = rw (c .match .keys8)
+
+returns-9 : tie.Need-returns-9
+returns-9 c = sym (none _ (c .match .rest))
 
 pub operand-count-spec : {M : Type 1} → statement M
 operand-count-spec =
     tie.close
-    (tie.spec returns returns-2 returns-3 returns-4 returns-5 returns-6 returns-7 returns-8)
+    (tie.spec returns returns-2 returns-3 returns-4 returns-5 returns-6 returns-7 returns-8 returns-9)

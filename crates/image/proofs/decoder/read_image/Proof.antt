@@ -1,6 +1,5 @@
 -- `image::decoder::read_image` meets its contract.
 -- Assumes nothing.
-use native.Mathlib.Omega.{arith}
 use borrow.Author.Needs.{needs}
 use Rattle.image.specs.Decode.{stateFrom}
 use Rattle.image.proofs.decoder.read_image.Statement.{statement}
@@ -10,54 +9,61 @@ registers-from-requires : tie.Need-registers-from-requires
 registers-from-requires c κs = search needs
 
 word-from-requires : tie.Need-word-from-requires
-word-from-requires c κs = omega arith
+word-from-requires c κs = search needs
 
 from-word-requires : tie.Need-from-word-requires
 from-word-requires c κs = search needs
 
 shared-slice-read-condition-from : tie.Need-shared-slice-read-condition-from
-shared-slice-read-condition-from c = omega arith
+shared-slice-read-condition-from c = search needs
 
-shared-slice-read-t12 : tie.Need-shared-slice-read-t12
-shared-slice-read-t12 c = omega arith
+shared-slice-read-t13 : tie.Need-shared-slice-read-t13
+shared-slice-read-t13 c = search needs
 
 shared-slice-read-condition-from-2 : tie.Need-shared-slice-read-condition-from-2
-shared-slice-read-condition-from-2 c = omega arith
+shared-slice-read-condition-from-2 c = search needs
 
 condition-from-requires : tie.Need-condition-from-requires
 condition-from-requires c κs = search needs
 
 word-from-requires-2 : tie.Need-word-from-requires-2
-word-from-requires-2 c κs = omega arith
+word-from-requires-2 c κs = search needs
 
-shared-slice-read-t10 : tie.Need-shared-slice-read-t10
-shared-slice-read-t10 c = omega arith
+shared-slice-read-t11 : tie.Need-shared-slice-read-t11
+shared-slice-read-t11 c = search needs
 
-shared-slice-read-t12-2 : tie.Need-shared-slice-read-t12-2
-shared-slice-read-t12-2 c = omega arith
+shared-slice-read-t13-2 : tie.Need-shared-slice-read-t13-2
+shared-slice-read-t13-2 c = search needs
 
 tlb-from-requires : tie.Need-tlb-from-requires
 tlb-from-requires c κs = search needs
 
+timer-from-requires : tie.Need-timer-from-requires
+timer-from-requires c κs = search needs
+
+timer-from-requires-2 : tie.Need-timer-from-requires-2
+timer-from-requires-2 c κs = search needs
+
 word-from-requires-3 : tie.Need-word-from-requires-3
-word-from-requires-3 c κs = omega arith
+word-from-requires-3 c κs = search needs
 
 word-from-requires-4 : tie.Need-word-from-requires-4
-word-from-requires-4 c κs = omega arith
+word-from-requires-4 c κs = search needs
 
 word-from-requires-5 : tie.Need-word-from-requires-5
-word-from-requires-5 c κs = omega arith
+word-from-requires-5 c κs = search needs
 
 word-from-requires-6 : tie.Need-word-from-requires-6
-word-from-requires-6 c κs = omega arith
+word-from-requires-6 c κs = search needs
 
-shared-slice-read-t12-3 : tie.Need-shared-slice-read-t12-3
-shared-slice-read-t12-3 c = omega arith
+shared-slice-read-t11-2 : tie.Need-shared-slice-read-t11-2
+shared-slice-read-t11-2 c = search needs
 
 returns : tie.Need-returns
 unfolding stateFrom
 returns c =
-    let tlb = c .before .before .before .before .before in
+    let timers = c .before .before .before .before .before in
+    let tlb = timers .before .before in
     let condition = tlb .before .before .before .before in
     let flags = condition .before .before .before .before in
     rw (
@@ -65,6 +71,8 @@ returns c =
       c .before .before .word-from5 .ensures,
       c .before .before .before .word-from4 .ensures,
       c .before .before .before .before .word-from3 .ensures,
+      timers .timer-from2 .ensures,
+      timers .before .timer-from .ensures,
       tlb .tlb-from .ensures,
       tlb .before .before .before .word-from2 .ensures,
       condition .condition-from .ensures,
@@ -81,16 +89,18 @@ read-image-spec =
     word-from-requires
     from-word-requires
     shared-slice-read-condition-from
-    shared-slice-read-t12
+    shared-slice-read-t13
     shared-slice-read-condition-from-2
     condition-from-requires
     word-from-requires-2
-    shared-slice-read-t10
-    shared-slice-read-t12-2
+    shared-slice-read-t11
+    shared-slice-read-t13-2
     tlb-from-requires
+    timer-from-requires
+    timer-from-requires-2
     word-from-requires-3
     word-from-requires-4
     word-from-requires-5
     word-from-requires-6
-    shared-slice-read-t12-3
+    shared-slice-read-t11-2
     returns)

@@ -30,17 +30,26 @@ shared-slice-read-result-3 c = omega arith
 all-zeros-requires : tie.Need-all-zeros-requires
 all-zeros-requires c κs = search needs
 
+timer-good-requires : tie.Need-timer-good-requires
+timer-good-requires c κs = omega arith
+
+timer-good-requires-2 : tie.Need-timer-good-requires-2
+timer-good-requires-2 c κs = omega arith
+
 returns : tie.Need-returns
 unfolding goodImage
 returns c =
-    let pending = c .before .before .before .before in
+    let zeros = c .before .before in
+    let pending = zeros .before .before .before .before in
     let flag = pending .before .before in
     rw (
-      ← flag .before .word-from .ensures,
-      ← flag .flag-good .ensures,
-      ← pending .before .word-from2 .ensures,
-      ← pending .pending-good .ensures,
-      ← c .all-zeros .ensures,
+      flag .flag-good .ensures,
+      flag .before .word-from .ensures,
+      pending .pending-good .ensures,
+      pending .before .word-from2 .ensures,
+      zeros .all-zeros .ensures,
+      c .before .timer-good .ensures,
+      c .timer-good2 .ensures,
     )
 
 pub good-image-spec : {M : Type 1} → statement M
@@ -55,4 +64,6 @@ good-image-spec =
     shared-slice-read-result-2
     shared-slice-read-result-3
     all-zeros-requires
+    timer-good-requires
+    timer-good-requires-2
     returns)

@@ -1,0 +1,5 @@
+pub mod AtOnce
+pub mod Laws
+pub mod Port
+pub mod Time
+pub mod Worked

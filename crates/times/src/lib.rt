@@ -1,0 +1,1 @@
+// Time passes only by command 08: what steps, runs, cards and milliseconds do to the timers.
