@@ -12,12 +12,17 @@ use Rattle.decode.specs.declared.First.{First}
 use Rattle.decode.specs.declared.First.the-variants.{Defined, Undefined}
 use Rattle.decode.specs.declared.Flow.{Flow}
 use Rattle.decode.specs.declared.Flow.the-variants as flow
+use Rattle.decode.specs.declared.Instruction.{Instruction}
 use Rattle.decode.specs.declared.Shape.{Shape}
 use Rattle.plan.specs.End.{endOf, notPermitted, performs, undefinedWord, zeroDivisor}
-use Rattle.machine.specs.Plan.{after, fetched, interrupted, permitted, planFetch, planFirst, planOf, planOperand, planSecond, planned, throughAccess}
+use Rattle.machine.specs.Flag.{flagOf}
+use Rattle.machine.specs.Plan.{after, fetched, interrupted, permitted, planFetch, planFirst, planOf, planOperand, planSecond}
+use Rattle.machine.specs.Plan.{planTransfer, planned, throughAccess, translates}
+use Rattle.machine.specs.Register.{regOf, spOf}
 use Rattle.status.specs.Pending.{lowestLine}
 use Rattle.plan.specs.declared.Plan.{Plan}
-use Rattle.plan.specs.declared.Plan.the-variants.{Interrupt, Trap, Violation}
+use Rattle.plan.specs.declared.Operation.{Operation}
+use Rattle.plan.specs.declared.Plan.the-variants.{Interrupt, Perform, Trap, Violation}
 use Rattle.machine.specs.declared.Planned.{Planned}
 use Rattle.plan.specs.declared.Ready.{Ready}
 use Rattle.machine.specs.declared.State.{State}
@@ -26,6 +31,11 @@ use Rattle.mmu.specs.declared.Access.{Access}
 use Rattle.mmu.specs.declared.Access.the-variants as access
 use Rattle.mmu.specs.declared.Accessed.{Accessed}
 use Rattle.mmu.specs.declared.Fault.{Fault}
+use Rattle.transfer.specs.Need.{addressOf, needOf, valueStored}
+use Rattle.transfer.specs.Transfer.{transferOf}
+use Rattle.transfer.specs.declared.Need.{Need}
+use Rattle.transfer.specs.declared.Transfer.{Transfer}
+use Rattle.transfer.specs.declared.Transfer.the-variants as transfer
 use Rattle.word.specs.Cases.{either}
 use Rattle.word.specs.Word.{plus}
 
@@ -98,3 +108,28 @@ end-by Claim x go trap flow.Resume pc jumps = go _ _
 end-by Claim x go trap flow.Trap pc jumps = trap _ _ (omega arith)
 end-by Claim x go trap flow.Divide pc jumps = either Claim (eqb (x .source) 0) (λ _. trap _ _ (omega arith)) (λ _. go _ _)
 end-by Claim x go trap flow.Shift pc jumps = go _ _
+
+-- ---- the operand's plan
+
+-- what is shown of each way that it goes: the instruction is carried out, an access fails, or there is a trap
+pub record Ends (Claim : Plan → Type 0) (code : ℕ) : Type 0 where
+  pub performs : (op : Operation) → op .code ≡ code → Claim (Perform op)
+  pub fails : (why : Fault) (a : ℕ) → Claim (Violation why a)
+  pub traps : (number saved : ℕ) → zeroDivisor ≤ number → Claim (Trap number saved)
+
+transfer-by :
+    (Claim : Plan → Type 0) (t : Transfer) (st : State) (ins : Instruction) → Ends Claim (ins .code) → (held address following : ℕ)
+    → Claim (planTransfer t st ins held address following)
+transfer-by Claim (transfer.Done source second stores) st ins x held address following =
+    end-by Claim _ (λ pc states. x .performs _ refl) (x .traps) (ins .flow) (st .pc) _
+transfer-by Claim (transfer.Fails why a) st ins x held address following = x .fails why a
+
+pub operand-by :
+    (Claim : Plan → Type 0) (st : State) (m : List ℕ) (ins : Instruction) (following : ℕ) → Ends Claim (ins .code)
+    → Claim ((planOperand st m ins following) .plan)
+unfolding planOperand
+operand-by Claim st m ins following x =
+    let held : ℕ = regOf st (ins .rd) in
+    let address : ℕ = addressOf (regOf st) (ins .operand) in
+    let need : Need = needOf (ins .access) (regOf st) (spOf st) (flagOf st) address (ins .operand) in
+    transfer-by Claim ((transferOf need (translates st) (st .tlb) m (valueStored (ins .code) held following)) .transfer) st ins x held address following

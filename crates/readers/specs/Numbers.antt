@@ -7,22 +7,14 @@ use Prim.Native.Nat.{ℕ, suc, zero, _%_, _/_, _<_, _≤_, _^_}
 use native.Mathlib.Nat.{pow-suc}
 use native.Mathlib.Omega.{arith}
 use lib.Count.{trailing-of-zero, trailingZeros, under}
-use Rattle.decode.specs.declared.Instruction.{Instruction}
-use Rattle.machine.specs.Flag.{flagOf}
 use Rattle.machine.specs.Kept.{fetch-keeps}
-use Rattle.machine.specs.Plan.{planOf, planOperand, planTransfer, translates}
-use Rattle.machine.specs.PlanLaws.{end-by, plan-by}
-use Rattle.machine.specs.Register.{regOf, spOf}
+use Rattle.machine.specs.Plan.{planOf}
+use Rattle.machine.specs.PlanLaws.{Ends, operand-by, plan-by}
 use Rattle.machine.specs.declared.Planned.{Planned}
 use Rattle.machine.specs.declared.State.{State}
 use Rattle.plan.specs.declared.Plan.{Plan}
 use Rattle.plan.specs.declared.Plan.the-variants.{Interrupt, Perform, Trap, Violation}
 use Rattle.status.specs.Pending.{lowestLine}
-use Rattle.transfer.specs.Need.{addressOf, needOf, valueStored}
-use Rattle.transfer.specs.Transfer.{transferOf}
-use Rattle.transfer.specs.declared.Need.{Need}
-use Rattle.transfer.specs.declared.Transfer.{Transfer}
-use Rattle.transfer.specs.declared.Transfer.the-variants as transfer
 
 -- ---- lines
 
@@ -52,19 +44,8 @@ Other (Violation why a) = Unit {0}
 Other (Trap number saved) = number ≡ 11 → ⊥
 Other (Perform op) = Unit {0}
 
-transfer-other :
-    (t : Transfer) (st : State) (ins : Instruction) (held address following : ℕ) → Other (planTransfer t st ins held address following)
-transfer-other (transfer.Done source second stores) st ins held address following =
-    end-by Other _ (λ pc states. tt) (λ number saved l e. omega arith) (ins .flow) (st .pc) _
-transfer-other (transfer.Fails why a) st ins held address following = tt
-
-operand-other : (st : State) (m : List ℕ) (ins : Instruction) (following : ℕ) → Other ((planOperand st m ins following) .plan)
-unfolding planOperand
-operand-other st m ins following =
-    let held : ℕ = regOf st (ins .rd) in
-    let address : ℕ = addressOf (regOf st) (ins .operand) in
-    let need : Need = needOf (ins .access) (regOf st) (spOf st) (flagOf st) address (ins .operand) in
-    transfer-other ((transferOf need (translates st) (st .tlb) m (valueStored (ins .code) held following)) .transfer) st ins held address following
+ends-other : (code : ℕ) → Ends Other code
+ends-other code = record { performs = λ op e. tt; fails = λ why a. tt; traps = λ number saved l e. omega arith }
 
 pub plan-other : (st : State) (m : List ℕ) → st .pending < 1024 → Other ((planOf st m) .plan)
 plan-other st m h =
@@ -76,7 +57,7 @@ plan-other st m h =
       second = λ s l why. tt;
       undefined = λ s l e. omega arith;
       denied = λ s l e. omega arith;
-      short = λ s l w shape d e. operand-other s m _ _;
-      long = λ s l w shape d e at. operand-other s m _ _;
+      short = λ s l w shape d e. operand-by Other s m _ _ (ends-other _);
+      long = λ s l w shape d e at. operand-by Other s m _ _ (ends-other _);
     })
     st h

@@ -8,15 +8,12 @@ use Prim.Native.Nat.{ℕ, suc, zero, _+_, _<_}
 use native.Mathlib.Omega.{arith}
 use Rattle.counting.specs.Statement.{entry, eventAt}
 use Rattle.counting.specs.Theorem.{counted}
-use Rattle.decode.specs.declared.Instruction.{Instruction}
 use Rattle.machine.specs.Enter.{Outcome, enterOf}
 use Rattle.machine.specs.Execute.{afterOperation, bodyOf}
 use Rattle.machine.specs.Fault.{noted}
-use Rattle.machine.specs.Flag.{flagOf}
 use Rattle.machine.specs.Kept.{fetch-keeps, plan-keeps}
-use Rattle.machine.specs.Plan.{planOf, planOperand, planTransfer, translates}
-use Rattle.machine.specs.PlanLaws.{end-by, plan-by}
-use Rattle.machine.specs.Register.{regOf, spOf}
+use Rattle.machine.specs.Plan.{planOf}
+use Rattle.machine.specs.PlanLaws.{Ends, operand-by, plan-by}
 use Rattle.machine.specs.Run.{iterate, runOf}
 use Rattle.machine.specs.State.{withPc}
 use Rattle.machine.specs.Step.{commit, stepOf}
@@ -27,11 +24,6 @@ use Rattle.plan.specs.declared.Operation.{Operation}
 use Rattle.plan.specs.declared.Plan.{Plan}
 use Rattle.plan.specs.declared.Plan.the-variants.{Interrupt, Perform, Trap, Violation}
 use Rattle.status.specs.Pending.{lowestLine, without}
-use Rattle.transfer.specs.Need.{addressOf, needOf, valueStored}
-use Rattle.transfer.specs.Transfer.{transferOf}
-use Rattle.transfer.specs.declared.Need.{Need}
-use Rattle.transfer.specs.declared.Transfer.{Transfer}
-use Rattle.transfer.specs.declared.Transfer.the-variants as transfer
 use Rattle.times.specs.Statement.{RunLines}
 
 module _ (lines : ℕ) where
@@ -42,19 +34,8 @@ module _ (lines : ℕ) where
   Lowest (Trap number saved) = Unit {0}
   Lowest (Perform op) = Unit {0}
 
-  transfer-lowest :
-      (t : Transfer) (st : State) (ins : Instruction) (held address following : ℕ) → Lowest (planTransfer t st ins held address following)
-  transfer-lowest (transfer.Done source second stores) st ins held address following =
-      end-by Lowest _ (λ pc states. tt) (λ number saved l. tt) (ins .flow) (st .pc) _
-  transfer-lowest (transfer.Fails why a) st ins held address following = tt
-
-  operand-lowest : (st : State) (m : List ℕ) (ins : Instruction) (following : ℕ) → Lowest ((planOperand st m ins following) .plan)
-  unfolding planOperand
-  operand-lowest st m ins following =
-      let held : ℕ = regOf st (ins .rd) in
-      let address : ℕ = addressOf (regOf st) (ins .operand) in
-      let need : Need = needOf (ins .access) (regOf st) (spOf st) (flagOf st) address (ins .operand) in
-      transfer-lowest ((transferOf need (translates st) (st .tlb) m (valueStored (ins .code) held following)) .transfer) st ins held address following
+  ends-lowest : (code : ℕ) → Ends Lowest code
+  ends-lowest code = record { performs = λ op e. tt; fails = λ why a. tt; traps = λ number saved l. tt }
 
   plan-lowest : (st : State) (m : List ℕ) → st .pending ≡ lines → Lowest ((planOf st m) .plan)
   plan-lowest st m e =
@@ -66,8 +47,8 @@ module _ (lines : ℕ) where
         second = λ s h why. tt;
         undefined = λ s h. tt;
         denied = λ s h. tt;
-        short = λ s h w shape d e. operand-lowest s m _ _;
-        long = λ s h w shape d e at. operand-lowest s m _ _;
+        short = λ s h w shape d e. operand-by Lowest s m _ _ (ends-lowest _);
+        long = λ s h w shape d e at. operand-by Lowest s m _ _ (ends-lowest _);
       })
       st e
 

@@ -10,16 +10,13 @@ use Rattle.counting.specs.Statement.{entry, eventAt}
 use Rattle.counting.specs.Theorem.{counted}
 use Rattle.decode.specs.Code.{IN, OUT}
 use Rattle.decode.specs.Laws.{plain}
-use Rattle.decode.specs.declared.Instruction.{Instruction}
 use Rattle.machine.specs.Enter.{Outcome, enterOf}
 use Rattle.machine.specs.Execute.{afterOperation}
 use Rattle.machine.specs.Fault.{noted}
-use Rattle.machine.specs.Flag.{flagOf}
 use Rattle.machine.specs.Kept.{fetch-keeps, plan-keeps}
 use Rattle.machine.specs.Plain.{plain-here}
-use Rattle.machine.specs.Plan.{planOf, planOperand, planTransfer, translates}
-use Rattle.machine.specs.PlanLaws.{end-by, plan-by}
-use Rattle.machine.specs.Register.{regOf, spOf}
+use Rattle.machine.specs.Plan.{planOf}
+use Rattle.machine.specs.PlanLaws.{Ends, operand-by, plan-by}
 use Rattle.machine.specs.Run.{iterate, runOf}
 use Rattle.machine.specs.State.{withPc}
 use Rattle.machine.specs.Step.{commit, stepOf}
@@ -30,11 +27,6 @@ use Rattle.plan.specs.declared.Operation.{Operation}
 use Rattle.plan.specs.declared.Plan.{Plan}
 use Rattle.plan.specs.declared.Plan.the-variants.{Interrupt, Perform, Trap, Violation}
 use Rattle.timer.specs.declared.Timers.{Timers}
-use Rattle.transfer.specs.Need.{addressOf, needOf, valueStored}
-use Rattle.transfer.specs.Transfer.{transferOf}
-use Rattle.transfer.specs.declared.Need.{Need}
-use Rattle.transfer.specs.declared.Transfer.{Transfer}
-use Rattle.transfer.specs.declared.Transfer.the-variants as transfer
 use Rattle.times.specs.Statement.{UserTimers, timersBy}
 use Rattle.times.specs.Steps.{step-timers}
 
@@ -52,21 +44,8 @@ Plain (Violation why a) = Unit {0}
 Plain (Trap number saved) = Unit {0}
 Plain (Perform op) = plain (op .code) ≡ true
 
-transfer-plain :
-    (t : Transfer) (st : State) (ins : Instruction) → plain (ins .code) ≡ true → (held address following : ℕ)
-    → Plain (planTransfer t st ins held address following)
-transfer-plain (transfer.Done source second stores) st ins c held address following =
-    end-by Plain _ (λ pc states. c) (λ number saved l. tt) (ins .flow) (st .pc) _
-transfer-plain (transfer.Fails why a) st ins c held address following = tt
-
-operand-plain :
-    (st : State) (m : List ℕ) (ins : Instruction) → plain (ins .code) ≡ true → (following : ℕ) → Plain ((planOperand st m ins following) .plan)
-unfolding planOperand
-operand-plain st m ins c following =
-    let held : ℕ = regOf st (ins .rd) in
-    let address : ℕ = addressOf (regOf st) (ins .operand) in
-    let need : Need = needOf (ins .access) (regOf st) (spOf st) (flagOf st) address (ins .operand) in
-    transfer-plain ((transferOf need (translates st) (st .tlb) m (valueStored (ins .code) held following)) .transfer) st ins c held address following
+ends-plain : (code : ℕ) → plain code ≡ true → Ends Plain code
+ends-plain code c = record { performs = λ op e. rw e c; fails = λ why a. tt; traps = λ number saved l. tt }
 
 plan-plain : (st : State) (m : List ℕ) → User st → Plain ((planOf st m) .plan)
 plan-plain st m u =
@@ -78,8 +57,8 @@ plan-plain st m u =
       second = λ s h why. tt;
       undefined = λ s h. tt;
       denied = λ s h. tt;
-      short = λ s h w shape d e. operand-plain s m _ (plain-here s (h .user) (h .noPorts) w shape d e) _;
-      long = λ s h w shape d e at. operand-plain s m _ (plain-here s (h .user) (h .noPorts) w shape d e) _;
+      short = λ s h w shape d e. operand-by Plain s m _ _ (ends-plain _ (plain-here s (h .user) (h .noPorts) w shape d e));
+      long = λ s h w shape d e at. operand-by Plain s m _ _ (ends-plain _ (plain-here s (h .user) (h .noPorts) w shape d e));
     })
     st u
 
