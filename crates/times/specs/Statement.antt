@@ -55,13 +55,14 @@ timersBy (Perform op) ts =
 abbrev pub StepTimers : Type 0
 StepTimers = (st : State) (m : List ℕ) → (stepOf st m) .state .timers ≡ timersBy ((planOf st m) .plan) (st .timers)
 
--- step number i, the first being number 0, is an OUT to the port that sets a timer's period
+-- a plan is an OUT to the port that sets a timer's period
 abbrev pub setsPeriod : Bool → Plan → Bool
 setsPeriod k (Interrupt line) = false
 setsPeriod k (Violation why a) = false
 setsPeriod k (Trap number saved) = false
 setsPeriod k (Perform op) = eqb (op .code) OUT && eqb (op .port) (periodPort k)
 
+-- so of step number i, the first being number 0
 abbrev pub setsAt : Bool → ℕ → State → List ℕ → Bool
 setsAt k i st m = setsPeriod k ((planOf ((iterate i st m) .state) ((iterate i st m) .memory)) .plan)
 
