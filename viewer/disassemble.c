@@ -43,7 +43,8 @@ static const char *const jumps[16] = {"JZ",  "JC",  "JM",  "JO",  "JGT", "JGE", 
 static const char *const registers[16] = {"G0", "G1", "G2", "G3",  "G4",  "G5", "G6", "G7",
                                           "G8", "G9", "G10", "G11", "FP", "SP", "USP", NULL};
 
-static int four_bits(unsigned field) { return field < 8 ? (int)field : (int)field - 16; }
+/* Signed, -8 to 7: 16 less where the uppermost bit is set. */
+static int four_bits(unsigned field) { return (int)field - (int)(field / 8 * 16); }
 
 /* Writes the operand of a mode. Answers the instruction's words, 0 if the last field names no register. */
 static int write_operand(char *text, size_t room, unsigned mode, unsigned last, long second)

@@ -1,4 +1,4 @@
-//! First bytes, used fields, state counts, results over all modes.
+//! First bytes, used fields, state counts, results over all modes, four-bit operands.
 
 use crate::common::*;
 use tac_tests::emulator::*;
@@ -196,6 +196,67 @@ fn results() {
             let flags = vc | ((result >> 15) * S) | ((result == 0) as u16 * Z);
             let kept = if first == 0x2C { a as u16 } else { result };
             assert_eq!((m.regs[1], m.flag), (kept, P | I | flags), "{first:02X} {a:04X} {b:04X}");
+        }
+    }
+}
+
+/// "D4 and the four-bit immediate are signed, -8 to 7." Of all sixteen fields, in the order of the fields.
+const SIGNED: [i16; 16] = [0, 1, 2, 3, 4, 5, 6, 7, -8, -7, -6, -5, -4, -3, -2, -1];
+
+/// Rd, for a four-bit operand: G0, FP and USP. Behind a NO the library has the first two in its fast loop, the last in its step.
+const TARGETS: [u16; 3] = [0, 12, 14];
+
+/// This word behind a NO, in kernel mode and in user mode, FP being in the middle of a page that can be read and written
+/// and has R-bit and D, as the fast loop wants it: the machine, and the place that FP leads to.
+fn four_bit(word: u16) -> [(Machine, usize); 2] {
+    [(kernel(&[0, word]), 0x1380), (user(&[0, word]), 0x3580)].map(|(mut m, place)| {
+        m.tlb[1] |= 0x1800;
+        m.regs = [0x5555; 13];
+        m.usp = 0x5555;
+        m.regs[12] = 0x1380;
+        (m, place)
+    })
+}
+
+/// The states of the instruction behind NO.
+fn states_behind(m: &mut Machine) -> u32 {
+    run(m, 2).states - 3
+}
+
+fn register(m: &Machine, number: u16) -> u16 {
+    match number {
+        14 => m.usp,
+        number => m.regs[number as usize],
+    }
+}
+
+#[test]
+fn four_bit_immediates() {
+    for (field, value) in (0..).zip(SIGNED) {
+        for rd in TARGETS {
+            for (mut m, _) in four_bit(0x0D00 | rd << 4 | field) {
+                assert_eq!(states_behind(&mut m), 4);
+                assert_eq!(register(&m, rd), value as u16, "field {field}");
+            }
+        }
+    }
+}
+
+#[test]
+fn four_bit_displacements() {
+    for (field, value) in (0..).zip(SIGNED) {
+        let at = |place: usize| place.wrapping_add_signed(2 * value as isize);
+        for rd in TARGETS {
+            for (mut m, place) in four_bit(0x0B00 | rd << 4 | field) {
+                put(&mut m, at(place), &[0xBEEF]);
+                assert_eq!(states_behind(&mut m), 7);
+                assert_eq!(register(&m, rd), 0xBEEF, "field {field}");
+            }
+            for (mut m, place) in four_bit(0x1300 | rd << 4 | field) {
+                let stored = register(&m, rd);
+                assert_eq!(states_behind(&mut m), 6);
+                assert_eq!(get(&m, at(place)), stored, "field {field}");
+            }
         }
     }
 }

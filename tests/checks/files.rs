@@ -91,6 +91,24 @@ const BY_HAND: &[(&str, &str)] = &[
         "04 with 65,535 steps, half of them DIV",
         "runs 2\nspent - 65535 2555899 0004 0041\nspent - 1 5 0000 0041\n",
     ),
+    // NO, LD in mode 5 and a jump to what it gave: -8 to 7.
+    (
+        "immediates of four bits",
+        "runs 16\n\
+         spent - 3 12 FFF8 0040\nspent - 3 12 FFF9 0040\nspent - 3 12 FFFA 0040\nspent - 3 12 FFFB 0040\n\
+         spent - 3 12 FFFC 0040\nspent - 3 12 FFFD 0040\nspent - 3 12 FFFE 0040\nspent - 3 12 FFFF 0040\n\
+         spent - 3 12 0000 0040\nspent - 3 12 0001 0040\nspent - 3 12 0002 0040\nspent - 3 12 0003 0040\n\
+         spent - 3 12 0004 0040\nspent - 3 12 0005 0040\nspent - 3 12 0006 0040\nspent - 3 12 0007 0040\n",
+    ),
+    // NO, LD in mode 3 and a jump to the address that was read: FP-16 to FP+14.
+    (
+        "words read at FP + 2 × D4",
+        "runs 16\n\
+         spent - 3 15 02F0 0040\nspent - 3 15 02F2 0040\nspent - 3 15 02F4 0040\nspent - 3 15 02F6 0040\n\
+         spent - 3 15 02F8 0040\nspent - 3 15 02FA 0040\nspent - 3 15 02FC 0040\nspent - 3 15 02FE 0040\n\
+         spent - 3 15 0300 0040\nspent - 3 15 0302 0040\nspent - 3 15 0304 0040\nspent - 3 15 0306 0040\n\
+         spent - 3 15 0308 0040\nspent - 3 15 030A 0040\nspent - 3 15 030C 0040\nspent - 3 15 030E 0040\n",
+    ),
     // LD and SVC, entry 1 with R; ST and SVC, entry 1 with R and D.
     (
         "R-bit and D as accesses leave them",
@@ -270,7 +288,7 @@ fn example_cards() {
         assert_eq!(card::bench(&card), text(&format!("examples/{name}.txt")), "{name}");
         names.push(name);
     }
-    for name in ["worked", "pages", "user", "fence", "winder", "cause", "pause", "refused"] {
+    for name in ["worked", "pages", "user", "fence", "winder", "cause", "pause", "operands", "refused"] {
         assert!(names.iter().any(|found| found == name), "no example {name}");
     }
 }

@@ -81,6 +81,7 @@ pub fn all() -> Vec<Stored> {
         registers(),
         lines(),
         runs(),
+        operands(),
         entries(),
         switches(),
         flags(),
@@ -213,6 +214,36 @@ fn runs() -> Vec<Stored> {
         case("04 with 65,535 steps, half of them DIV", dear.run(65_535).run(1)),
         case("state counts of single steps", counts),
         case("a run that goes on over the end of memory", Card::new().pc(0xFFFC).run(3)),
+    ]
+}
+
+/// The sixteen values of a four-bit operand, from -8 up. PC shows what came of each: the value, a sum with it, or the word at
+/// FP + 2 × D4.
+fn operands() -> Vec<Stored> {
+    // FP is 0300h. Each word from 02F0h to 030Eh is its own address.
+    let own: Vec<Words> = (0x02F0..=0x030E).step_by(2).map(word).collect();
+    let start = Card::new().register(12, 0x0300).code(0x02F0, &own);
+    // Rd is 1234h before. Behind a NO the library has G0 in its fast loop, USP in its step.
+    let each = |name: &str, rd: u8, code: &dyn Fn(u8, i8) -> Vec<Words>| {
+        let run = |card: Card, d| {
+            let code = [vec![no()], code(rd, d)].concat();
+            card.code(0x0100, &code).register(rd, 0x1234).pc(0x0100).run(code.len() as u16)
+        };
+        case(name, (-8..8).fold(start.clone(), run))
+    };
+    let loaded = |rd, d| vec![ld(rd, Short(d)), show(rd)];
+    let added = |rd, d| vec![add(rd, Short(d)), show(rd)];
+    let read = |rd, d| vec![ld(rd, Frame(d)), show(rd)];
+    let place = |d: i8| At(0x0300u16.wrapping_add_signed(2 * d as i16));
+    let written = |rd, d| vec![st(rd, Frame(d)), ld(1, place(d)), show(1)];
+    vec![
+        each("immediates of four bits", 0, &loaded),
+        each("immediates of four bits, to USP", 14, &loaded),
+        each("immediates of four bits, added to 1234h", 0, &added),
+        each("words read at FP + 2 × D4", 0, &read),
+        each("words read at FP + 2 × D4, to USP", 14, &read),
+        each("words stored at FP + 2 × D4", 0, &written),
+        each("words stored at FP + 2 × D4, from USP", 14, &written),
     ]
 }
 

@@ -12,6 +12,8 @@ use pages::fetch;
 use pages::read;
 use word::Width;
 use word::plus;
+use word::sign_extend;
+use word::to_word;
 
 // An operand: its value, the address of the following instruction, and the states with ADD.
 pub struct Source {
@@ -24,8 +26,7 @@ pub struct Source {
 fn short(w: u16) -> u16
     ensures { λ r. ⌜ r ≡ shortOf (rxField w) ⌝ }
 {
-    let d = w % 16;
-    if d < 8 { d } else { d + 65520 }
+    to_word(sign_extend(w))
 }
 
 // FP plus twice D4.

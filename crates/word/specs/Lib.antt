@@ -4,3 +4,4 @@ pub mod Laws
 pub mod Signed
 pub mod Width
 pub mod Word
+pub mod Worked

@@ -18,23 +18,13 @@ pub fn to_signed(w: u16) -> i16
 pub fn to_word(x: i16) -> u16
     ensures { λ r. ⌜ r ≡ word x ⌝ }
 {
-    if x < 0 {
-        let below = -1 - x;
-        65535 - below as u16
-    } else {
-        x as u16
-    }
+    ((x as i32 + 65536) % 65536) as u16
 }
 
-// The lowest four bits of `field` as a signed number, -8 to 7.
+// The lowest four bits of `field` as a signed number, -8 to 7: 16 less where the uppermost of them is set.
 pub fn sign_extend(field: u16) -> i16
     ensures { λ r. ⌜ r ≡ signed4 field ⌝ }
 {
-    let bits = field % 16;
-    if bits < 8 {
-        bits as i16
-    } else {
-        let below = 15 - bits;
-        -1 - below as i16
-    }
+    let bits = (field % 16) as i16;
+    bits - bits / 8 * 16
 }
