@@ -14,7 +14,7 @@ pub fn to_signed(w: u16) -> i16
     }
 }
 
-// The word that has the bits of `x`.
+// The word that has the bits of `x`: x modulo 65,536.
 pub fn to_word(x: i16) -> u16
     ensures { λ r. ⌜ r ≡ word x ⌝ }
 {
