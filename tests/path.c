@@ -54,8 +54,8 @@ struct place {
     int user;
 };
 
-/* A machine that has this word. In user mode CODE may be executed, and DATA read and written; both are marked already, or the fast loop
- * would leave them to the step. */
+/* Makes a machine with this word at PC, or behind the instructions NO there. In user mode CODE may be executed, and DATA read and written;
+ * both are marked already, or the fast loop would leave them to the step. */
 static void set(unsigned word, const struct place *place)
 {
     enum {
@@ -110,10 +110,10 @@ static int fail(const char *what, unsigned word, const struct place *place)
 static int try_all(unsigned word, const struct place *place)
 {
     if (!trace(&first, word, place))
-        return fail("no path", word, place);
+        return fail("no whole path of a good run", word, place);
     for (unsigned field = 1; field < VALUES; field++) {
         if (!trace(&other, word + field, place))
-            return fail("no path", word + field, place);
+            return fail("no whole path of a good run", word + field, place);
         if (!same(&first, &other))
             return fail("another path than that of field 0", word + field, place);
     }
@@ -124,9 +124,9 @@ static int try_all(unsigned word, const struct place *place)
 static int try_fork(const struct place *place)
 {
     if (!trace(&first, 0x0C00, place))
-        return fail("no path", 0x0C00, place);
+        return fail("no whole path of a good run", 0x0C00, place);
     if (!trace(&other, 0x0C0E, place))
-        return fail("no path", 0x0C0E, place);
+        return fail("no whole path of a good run", 0x0C0E, place);
     return same(&first, &other) ? fail("no fork", 0x0C0E, place) : 0;
 }
 

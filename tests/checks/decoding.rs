@@ -200,16 +200,17 @@ fn results() {
     }
 }
 
-/// "D4 and the four-bit immediate are signed, -8 to 7." Of all sixteen fields, in the order of the fields.
+/// "D4 and the four-bit immediate are signed, -8 to 7." The values of the fields 0 to 15.
 const SIGNED: [i16; 16] = [0, 1, 2, 3, 4, 5, 6, 7, -8, -7, -6, -5, -4, -3, -2, -1];
 
 /// Rd, for a four-bit operand: G0, FP and USP. Behind a NO the library has the first two in its fast loop, the last in its step.
 const TARGETS: [u16; 3] = [0, 12, 14];
 
-/// This word behind a NO, in kernel mode and in user mode, FP being in the middle of a page that can be read and written
-/// and has R-bit and D, as the fast loop wants it: the machine, and the place that FP leads to.
+/// This word behind a NO, in kernel mode and in user mode, FP being in the middle of a page that can be read and written:
+/// the machine, and the place that FP leads to.
 fn four_bit(word: u16) -> [(Machine, usize); 2] {
     [(kernel(&[0, word]), 0x1380), (user(&[0, word]), 0x3580)].map(|(mut m, place)| {
+        // R-bit and D of that page: the fast loop wants both.
         m.tlb[1] |= 0x1800;
         m.regs = [0x5555; 13];
         m.usp = 0x5555;

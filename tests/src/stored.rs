@@ -224,9 +224,9 @@ fn operands() -> Vec<Stored> {
     let own: Vec<Words> = (0x02F0..=0x030E).step_by(2).map(word).collect();
     let start = Card::new().register(12, 0x0300).code(0x02F0, &own);
     // Rd is 1234h before. Behind a NO the library has G0 in its fast loop, USP in its step.
-    let each = |name: &str, rd: u8, code: &dyn Fn(u8, i8) -> Vec<Words>| {
+    let each = |name: &str, rd: u8, instructions: &dyn Fn(u8, i8) -> Vec<Words>| {
         let run = |card: Card, d| {
-            let code = [vec![no()], code(rd, d)].concat();
+            let code = [vec![no()], instructions(rd, d)].concat();
             card.code(0x0100, &code).register(rd, 0x1234).pc(0x0100).run(code.len() as u16)
         };
         case(name, (-8..8).fold(start.clone(), run))

@@ -22,7 +22,7 @@ pub struct Source {
     pub cost: u32,
 }
 
-// The four-bit immediate.
+// The four-bit field, signed, as a word.
 fn short(w: u16) -> u16
     ensures { λ r. ⌜ r ≡ shortOf (rxField w) ⌝ }
 {

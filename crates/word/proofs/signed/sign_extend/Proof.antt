@@ -18,7 +18,7 @@ use Rattle.word.specs.Signed.{signed4}
 use Rattle.word.proofs.signed.sign_extend.Statement.{statement}
 use Rattle.word.proofs.signed.sign_extend.Tie as tie
 
--- n / d and n / d * 16, as they stand in memory
+-- n / d and n / d * 16, as 16 bits
 abbrev quotient : ℕ → ℕ → ℕ
 quotient n d = ofZ w16 (quotZ (toZ w16 n) (pos d))
 
@@ -57,7 +57,7 @@ module _ (n d : ℕ) (small : n < 16) where
   extended : (field : ℕ) → pos n -ℤ pos (n / d * 16) ≡ signed4 field → toZ w16 (ofZ w16 (toZ w16 n -ℤ toZ w16 (top n d))) ≡ signed4 field
   extended field e = toZ-ofZ w16 _ difference-fits ∙ difference ∙ e
 
--- the remainder by 16, or by less, is below 16
+-- a remainder by b is below 16 for each b from 1 to 16; that b is 16 is asked for by the equation alone
 field-small : (a b : ℕ) → T (ltb 0 b) → T (leb b 16) → a % b < 16
 field-small a b some few = omega (arith, mod-lt a (ltb→lt 0 b some), leb→le b 16 few)
 

@@ -32,7 +32,7 @@ above-word : (x : ℤ) → SFits w16 x → above x % 65536 ≡ word x
 above-word (pos n) f = omega (arith, f .sfits)
 above-word (negsuc n) f = omega arith
 
--- (x + 65536) % m, as it stands in memory
+-- (x + 65536) % m, as 32 bits
 abbrev remainder : ℤ → ℕ → ℕ
 remainder x m = ofZ w32 (remZ (toZ w32 (ofZ w32 (toZ w32 (ofZ w32 (toZ w16 (ofZ w16 x))) +ℤ pos 65536))) (pos m))
 
