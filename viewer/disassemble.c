@@ -39,22 +39,21 @@ static const struct single singles[] = {
 static const char *const jumps[16] = {"JZ",  "JC",  "JM",  "JO",  "JGT", "JGE", "JLE", "JLT",
                                       "JNZ", "JNC", "JNM", "JNO", "JHI", NULL,  "JLS", "JMP"};
 
-/* By the number in a register field; 15 is undefined. */
+/* By the number in a register field. PC stands in the last field alone: the address of the following instruction. */
+#define PC 15
 static const char *const registers[16] = {"G0", "G1", "G2", "G3",  "G4",  "G5", "G6", "G7",
-                                          "G8", "G9", "G10", "G11", "FP", "SP", "USP", NULL};
+                                          "G8", "G9", "G10", "G11", "FP", "SP", "USP", "PC"};
 
 /* Signed, -8 to 7: 16 less where the uppermost bit is set. */
 static int four_bits(unsigned field) { return (int)field - (int)(field / 8 * 16); }
 
-/* Writes the operand of a mode. Answers the instruction's words, 0 if the last field names no register. */
+/* Writes the operand of a mode. Answers the instruction's words. */
 static int write_operand(char *text, size_t room, unsigned mode, unsigned last, long second)
 {
     const char *rx = registers[last];
     char word[8] = "????";
     if (second >= 0)
         snprintf(word, sizeof word, "%04lXh", second & 0xFFFF);
-    if ((mode == 1 || mode == 4 || mode >= 6) && rx == NULL)
-        return 0;
     switch (mode) {
     case 0: snprintf(text, room, "%s", word); return 2;
     case 1: snprintf(text, room, "%s,%s", word, rx); return 2;
@@ -79,10 +78,9 @@ static struct instruction with_mode(const struct moded *row, unsigned first, lon
     char operand[16] = "";
     unsigned rd = first >> 4 & 15;
     const char *name = row->rd == CONDITION ? jumps[rd] : row->name;
-    int words = write_operand(operand, sizeof operand, first >> 8 & 7, first & 15, second);
-    if (words == 0 || name == NULL || (row->rd == REGISTER && registers[rd] == NULL))
+    if (name == NULL || (row->rd == REGISTER && rd == PC))
         return result;
-    result.words = words;
+    result.words = write_operand(operand, sizeof operand, first >> 8 & 7, first & 15, second);
     if (row->rd == REGISTER)
         snprintf(result.text, sizeof result.text, "%s %s,%s", name, registers[rd], operand);
     else
@@ -93,12 +91,12 @@ static struct instruction with_mode(const struct moded *row, unsigned first, lon
 static struct instruction without_mode(const struct single *row, unsigned first)
 {
     struct instruction result = undefined();
-    const char *rd = registers[first >> 4 & 15];
-    if (row->rd == REGISTER && rd == NULL)
+    unsigned rd = first >> 4 & 15;
+    if (row->rd == REGISTER && rd == PC)
         return result;
     result.words = 1;
     if (row->rd == REGISTER)
-        snprintf(result.text, sizeof result.text, "%s %s%s", row->name, rd, row->behind);
+        snprintf(result.text, sizeof result.text, "%s %s%s", row->name, registers[rd], row->behind);
     else
         snprintf(result.text, sizeof result.text, "%s", row->name);
     return result;

@@ -46,7 +46,7 @@ pub fn put(m: &mut Machine, address: usize, words: &[u16]) {
 }
 
 pub fn get(m: &Machine, address: usize) -> u16 {
-    u16::from_be_bytes([m.memory[address], m.memory[address + 1]])
+    m.get(address)
 }
 
 /// A call on this machine, with a report of 12 bytes.

@@ -5,7 +5,7 @@ use tac_tests::emulator::*;
 use tac_tests::sample;
 
 /// The name of a first byte's instruction by document 01's list.
-fn name(first: u8) -> Option<&'static str> {
+pub fn name(first: u8) -> Option<&'static str> {
     let (base, mode) = (first & 0xF8, first & 7);
     let all = [
         (0x08, "LD"),
@@ -79,18 +79,25 @@ fn first_bytes() {
     }
 }
 
-/// Register fields of 15, by instruction and mode.
+/// Does the instruction use Rd as a register?
+pub fn uses_rd(name: &str) -> bool {
+    !["NO", "RET", "RETI", "SVC", "HALT", "JUMP", "CALL"].contains(&name)
+}
+
+/// Does the last field name a register?
+pub fn uses_rx(first: u8) -> bool {
+    let single = ["NO", "LD FLAG", "PUSH", "POP", "RET", "RETI", "SVC", "HALT"];
+    name(first).is_some_and(|name| !single.contains(&name)) && [1, 4, 6, 7].contains(&(first & 7))
+}
+
+/// Register fields of 15, by instruction: a used Rd is undefined, the last field is not.
 #[test]
 fn used_fields() {
     for first in 0..=255u8 {
         let Some(name) = name(first) else { continue };
-        let mode = first & 7;
-        let modes = !["NO", "LD FLAG", "PUSH", "POP", "RET", "RETI", "SVC", "HALT"].contains(&name);
-        let rd_used = !["NO", "RET", "RETI", "SVC", "HALT", "JUMP", "CALL"].contains(&name);
-        let rx_used = modes && [1, 4, 6, 7].contains(&mode);
         for (rd, rx) in [(15, 0), (0, 15), (15, 15), (13, 0), (14, 14)] {
             let mut m = ready((first as u16) << 8 | rd << 4 | rx);
-            let undefined = rd_used && rd == 15 || rx_used && rx == 15 || name == "JUMP" && rd == 13;
+            let undefined = uses_rd(name) && rd == 15 || name == "JUMP" && rd == 13;
             let ending = one(&mut m).ending;
             assert_eq!(ending == Ending::Entered(14), undefined, "{first:02X} {rd} {rx}: {ending:?}");
         }

@@ -109,6 +109,66 @@ const BY_HAND: &[(&str, &str)] = &[
          spent - 3 15 0300 0040\nspent - 3 15 0302 0040\nspent - 3 15 0304 0040\nspent - 3 15 0306 0040\n\
          spent - 3 15 0308 0040\nspent - 3 15 030A 0040\nspent - 3 15 030C 0040\nspent - 3 15 030E 0040\n",
     ),
+    // LD and a jump to what it gave; the same behind a NO.
+    ("LD G0,PC at 0100h", "runs 2\nspent - 2 9 0102 0040\nspent - 3 12 0102 0040\n"),
+    // The word at 0200h + 0104h.
+    ("LD G0,[Dsp+PC] at 0100h", "runs 2\nspent - 2 12 5AA4 0040\nspent - 3 15 5AA4 0040\n"),
+    // The jump's own first word, and its upper half.
+    ("a word read by [PC]", "runs 2\nspent - 2 11 A1F0 0040\nspent - 3 14 A1F0 0040\n"),
+    ("a byte read by [PC]", "runs 2\nspent - 2 11 00A1 0040\nspent - 3 14 00A1 0040\n"),
+    // 1234h and 0102h; CMP keeps 1234h, the shifts go by 2.
+    (
+        "ADD to SHRL with PC as the source",
+        "runs 28\n\
+         spent - 2 10 1336 0040\nspent - 2 10 1132 0040\nspent - 2 10 1234 0040\nspent - 2 10 0000 0041\n\
+         spent - 2 10 1336 0040\nspent - 2 10 1336 0040\nspent - 2 11 1438 0040\nspent - 2 60 5868 0040\n\
+         spent - 2 76 0012 0040\nspent - 2 76 0010 0040\nspent - 2 13 48D0 0040\nspent - 2 13 48D0 0040\n\
+         spent - 2 13 048D 0040\nspent - 2 13 048D 0040\n\
+         spent - 3 13 1336 0040\nspent - 3 13 1132 0040\nspent - 3 13 1234 0040\nspent - 3 13 0000 0041\n\
+         spent - 3 13 1336 0040\nspent - 3 13 1336 0040\nspent - 3 14 1438 0040\nspent - 3 63 5868 0040\n\
+         spent - 3 79 0012 0040\nspent - 3 79 0010 0040\nspent - 3 16 48D0 0040\nspent - 3 16 48D0 0040\n\
+         spent - 3 16 048D 0040\nspent - 3 16 048D 0040\n",
+    ),
+    ("IN by [PC] at 0016h", "runs 2\nspent - 2 11 005A 0040\nspent - 3 14 005A 0040\n"),
+    ("a word stored at [Dsp+PC]", "runs 2\nspent - 3 18 1357 0040\nspent - 4 21 1357 0040\n"),
+    // ST, what was NO and is now LD G0,5, a jump to G0.
+    ("ST by [PC] over the next word", "runs 2\nspent - 3 14 0005 0040\nspent - 4 17 0005 0040\n"),
+    ("ST by [PC] over the next byte", "runs 2\nspent - 3 14 0005 0040\nspent - 4 17 0005 0040\n"),
+    ("JMP [Dsp+PC] at 0100h", "runs 2\nspent - 1 5 0304 0040\nspent - 2 8 0304 0040\n"),
+    ("JMP [Dsp+PC], not taken", "runs 2\nspent - 1 4 0104 0040\nspent - 2 7 0104 0040\n"),
+    ("JMP [Dsp+PC] to itself", "runs 2\nspent - 65534 327670 0100 0040\nspent - 65535 327673 0100 0040\n"),
+    // CALL; at 0304h POP, and a jump to what was pushed.
+    ("CALL [Dsp+PC] at 0100h", "runs 2\nspent - 3 17 0104 0040\nspent - 4 20 0104 0040\n"),
+    // OUT to 82h, IN from there, a jump to the word.
+    ("OUT by [PC] at 0080h", "runs 2\nspent - 3 17 8534 0040\nspent - 4 20 8534 0040\n"),
+    // A jump to 0300h + 0000h; the words at 0300h + 0000h and at 0300h + 0002h.
+    ("LD G0,PC at FFFEh", "runs 2\nspent - 2 9 0300 0040\nspent - 3 12 0300 0040\n"),
+    ("LD G0,[Dsp+PC] at FFFCh", "runs 2\nspent - 2 12 1112 0040\nspent - 3 15 1112 0040\n"),
+    ("LD G0,[Dsp+PC] at FFFEh", "runs 2\nspent - 2 12 2224 0040\nspent - 3 15 2224 0040\n"),
+    ("DIV by PC at FFFEh: fault 12", "runs 2\nentered 12 1 12 FFFE 0040\nentered 12 2 15 FFFE 0040\n"),
+    ("a user's LD G0,PC at 1200h", "runs 1\nspent - 2 9 1202 0000\n"),
+    // LD, LD of 1111h, ADD of 0222h, a jump to the sum.
+    ("a user's table found by PC", "runs 1\nspent - 4 23 1333 0000\n"),
+    // NO, ST, SVC; the kernel reads the word in the frame.
+    ("a user's ST by [Dsp+PC]", "runs 2\nentered 15 3 21 1208 0000\nspent - 2 12 2468 0040\n"),
+    ("a user's jump by [Dsp+PC] to itself", "runs 1\nspent - 65535 327675 1200 0000\n"),
+    // The fault; two IN and a jump to the address; a jump to the cause.
+    (
+        "11: a read by [PC] without right",
+        "runs 3\nentered 11 1 12 1200 0000\nspent - 3 19 1202 0040\nspent - 1 5 0001 0040\n",
+    ),
+    (
+        "11: a store by [PC] without right",
+        "runs 3\nentered 11 2 15 1202 0000\nspent - 3 19 1204 0040\nspent - 1 5 0001 0040\n",
+    ),
+    ("10: a read by [Dsp+PC]", "runs 2\nentered 10 2 15 1202 0000\nspent - 2 12 007E 0040\n"),
+    ("13: IN by [PC] of a user", "runs 1\nentered 13 1 12 1200 0000\n"),
+    // The kernel's first step; the user's second.
+    ("14: ST PC,[PC]", "runs 2\nentered 14 1 12 0100 0040\nentered 14 2 15 1202 0000\n"),
+    ("14: ADD PC,G0", "runs 2\nentered 14 1 12 0100 0040\nentered 14 2 15 1202 0000\n"),
+    ("14: CMP PC,G0", "runs 2\nentered 14 1 12 0100 0040\nentered 14 2 15 1202 0000\n"),
+    ("14: OUT PC,[18h]", "runs 2\nentered 14 1 12 0100 0040\nentered 14 2 15 1202 0000\n"),
+    ("14: PUSH PC", "runs 2\nentered 14 1 12 0100 0040\nentered 14 2 15 1202 0000\n"),
     // LD and SVC, entry 1 with R; ST and SVC, entry 1 with R and D.
     (
         "R-bit and D as accesses leave them",
@@ -288,7 +348,7 @@ fn example_cards() {
         assert_eq!(card::bench(&card), text(&format!("examples/{name}.txt")), "{name}");
         names.push(name);
     }
-    for name in ["worked", "pages", "user", "fence", "winder", "cause", "pause", "operands", "refused"] {
+    for name in ["worked", "pages", "user", "fence", "winder", "cause", "pause", "operands", "tables", "refused"] {
         assert!(names.iter().any(|found| found == name), "no example {name}");
     }
 }

@@ -5,6 +5,7 @@ mod common;
 mod decoding;
 mod examples;
 mod files;
+mod following;
 mod layout;
 mod looks;
 mod random;

@@ -6,16 +6,19 @@ use tac_tests::emulator::{Machine, MEMORY, P};
 use tac_tests::generate::Maker;
 use tac_tests::image;
 use tac_tests::isolation::{self, After, Pair};
+use tac_tests::reach::Reached;
 use tac_tests::rng::Rng;
 
-/// Demand 3 holds, and the pairs say something: long runs, entries, stores.
+/// Demand 3 holds, and the pairs say something: long runs, entries, stores, reads, stores and jumps by register 15.
 #[test]
 fn pairs() {
     let (mut maker, mut pair) = (Maker::new(), Pair::empty());
     let (mut a, mut b) = (After::empty(), After::empty());
     let [mut long, mut handlers, mut overwrote, mut stored] = [0; 4];
+    let mut reached = Reached::default();
     for index in 0..400 {
         maker.pair(&mut Rng::of_case(11, 1, index), &mut pair);
+        reached.pair(&pair);
         let seen = isolation::check(card::run, &pair, &mut a, &mut b).expect("demand 3");
         long += (u16::from_be_bytes([seen.report[2], seen.report[3]]) >= 100) as u32;
         handlers += seen.other_handler as u32;
@@ -23,6 +26,7 @@ fn pairs() {
         stored += seen.stored as u32;
     }
     assert!(long > 100 && handlers > 50 && overwrote > 100 && stored > 100, "{long} {handlers} {overwrote} {stored}");
+    assert_eq!(reached.lacking_for_users(), Vec::<String>::new());
 }
 
 /// An emulator that lets memory through: the check notices.

@@ -138,7 +138,7 @@ fn ports() {
     write(0xA6);
 }
 
-/// 4: a jump that is not taken fetches its second word, and uses Rx in mode 1.
+/// 4: a jump that is not taken fetches its second word, in mode 1 with any register as Rx.
 #[test]
 fn ruling_4_untaken_jump() {
     let mut m = user(&[]);
@@ -152,8 +152,10 @@ fn ruling_4_untaken_jump() {
     m.tlb[1] = 0x13_8135;
     assert_eq!(states(&mut m), 4);
     assert_eq!((m.pc, m.tlb[1]), (0x1302, 0x13_9135));
-    let mut m = user(&[0xA10F, 0x0000]);
-    assert_eq!(entered(&mut m), 14);
+    for rx in 0..16 {
+        let mut m = user(&[0xA100 | rx, 0x0001]);
+        assert_eq!((states(&mut m), m.pc), (4, 0x1204));
+    }
 }
 
 /// 5: CALL's Rd, the last field of PUSH, POP and LD FLAG are not looked at.

@@ -14,7 +14,7 @@ use tac_tests::timer::{Timer, START};
 /// Each scenario runs on for a while and comes to what it is about: entries by these numbers, and steps that are spent.
 #[test]
 fn scenarios_come_to_their_point() {
-    let points: [(&str, &[u8]); 25] = [
+    let points: [(&str, &[u8]); 26] = [
         ("first touches", &[11]),
         ("marks without rights", &[11]),
         ("entries changed by OUT", &[10, 11]),
@@ -32,6 +32,7 @@ fn scenarios_come_to_their_point() {
         ("a page twice", &[11]),
         ("stack at an end", &[10, 11]),
         ("registers 13 and 14", &[10, 11]),
+        ("register 15", &[11, 13, 14]),
         ("LD FLAG", &[15]),
         ("zero divisor in a loop", &[12]),
         ("shifts", &[]),
@@ -384,6 +385,27 @@ fn registers_13_and_14() {
     put(&mut m, 0x0FFA, &[0x2468]);
     spent(&mut m, 5);
     assert_eq!((m.regs[0], m.usp, m.ssp, get(&m, 0x0FFE)), (0x1340, 0x2468, 0x0FFC, 0x1340));
+}
+
+#[test]
+fn register_15() {
+    // Turns that find a word in page 13h, add it up by PC and go back by PC.
+    let code = [
+        ld(1, Register(PC)),
+        ld(2, Indexed(0x00FE, 1)),
+        add(3, Indexed(0x00F6, PC)),
+        st(3, Indexed(0x0100, PC)),
+        jump(ALWAYS, Indexed(0xFFEE, PC)),
+    ];
+    let mut m = user(&code.concat());
+    put(&mut m, 0x3500, &[0x0007]);
+    assert_eq!(spent(&mut m, 500), 100 * (4 + 7 + 7 + 6 + 5));
+    assert_eq!(m.regs[1..4], [0x1202, 7, 700]);
+    assert_eq!((get(&m, 0x350E), m.pc, m.tlb[1]), (700, 0x1200, 0x13_9E35));
+    // As Rd it ends the run.
+    let mut m = user(&[no(), ld(0, Register(PC)), add(PC, Register(0))].concat());
+    assert_eq!(ends(&mut m, Ending::Entered(14), 3).pc, 0x1204);
+    assert_eq!(m.regs[0], 0x1204);
 }
 
 #[test]

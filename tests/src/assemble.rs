@@ -172,6 +172,9 @@ constructors! {
     alone halt 0xFF
 }
 
+/// Register 15.
+pub const PC: u8 = 15;
+
 // Jump conditions, which stand in the place of Rd.
 pub const ZERO: u8 = 0;
 pub const CARRY: u8 = 1;

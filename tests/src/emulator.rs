@@ -100,25 +100,12 @@ struct Fields {
 }
 
 impl Fields {
-    /// "A used register field of 15 is undefined (H)": both fields.
-    fn used(self) -> Result<(), u8> {
-        self.used_rd()?;
-        self.used_rx()
-    }
-
+    /// "As Rd, in PUSH and in POP it remains undefined" (document 02, request 4): register 15.
     fn used_rd(self) -> Result<(), u8> {
         if self.rd == 15 {
             return Err(UNDEFINED);
         }
         Ok(())
-    }
-
-    /// The last field names a register in modes 1, 4, 6 and 7.
-    fn used_rx(self) -> Result<(), u8> {
-        match (self.mode, self.rx) {
-            (1 | 4 | 6 | 7, 15) => Err(UNDEFINED),
-            _ => Ok(()),
-        }
     }
 
     /// "D4 and the four-bit immediate are signed, -8 to 7."
@@ -241,7 +228,7 @@ impl Machine {
 /// Memory and MMU.
 impl Machine {
     /// "The even byte of a word is its upper half." The address is even.
-    fn get(&self, place: usize) -> u16 {
+    pub fn get(&self, place: usize) -> u16 {
         u16::from_be_bytes([self.memory[place], self.memory[place + 1]])
     }
 
@@ -307,13 +294,22 @@ impl Machine {
 
 /// Registers, operands and the stack.
 impl Machine {
-    /// "13 SP (SSP if P=1, USP if P=0), 14 USP."
-    fn reg(&self, number: usize) -> u16 {
+    /// Registers 0 to 14: "13 SP (SSP if P=1, USP if P=0), 14 USP."
+    pub fn reg(&self, number: usize) -> u16 {
         match number {
             0..=12 => self.regs[number],
             13 if self.flag & P != 0 => self.ssp,
             13 | 14 => self.usp,
-            _ => unreachable!("field 15 is refused before"),
+            _ => unreachable!("15 is refused as Rd, and found by `last`"),
+        }
+    }
+
+    /// The register that the last field names. "Register 15 as Rs or Rx now gives the address of the following
+    /// instruction, counting the second word" (document 02, request 4).
+    fn last(&self, f: Fields) -> u16 {
+        match f.rx {
+            15 => self.pc.wrapping_add(f.length()),
+            number => self.reg(number),
         }
     }
 
@@ -322,7 +318,7 @@ impl Machine {
             0..=12 => self.regs[number] = value,
             13 if self.flag & P != 0 => self.ssp = value,
             13 | 14 => self.usp = value,
-            _ => unreachable!("field 15 is refused before"),
+            _ => unreachable!("Rd of 15 is refused before"),
         }
     }
 
@@ -334,9 +330,9 @@ impl Machine {
     fn address(&mut self, f: Fields) -> Result<u16, u8> {
         match f.mode {
             0 => self.second_word(),
-            1 => Ok(self.second_word()?.wrapping_add(self.reg(f.rx))),
+            1 => Ok(self.second_word()?.wrapping_add(self.last(f))),
             3 => Ok(self.regs[12].wrapping_add(f.signed().wrapping_mul(2))),
-            6 | 7 => Ok(self.reg(f.rx)),
+            6 | 7 => Ok(self.last(f)),
             _ => unreachable!("modes 2, 4 and 5 name no address"),
         }
     }
@@ -345,7 +341,7 @@ impl Machine {
     fn source(&mut self, f: Fields) -> Result<u16, u8> {
         match f.mode {
             2 => self.second_word(),
-            4 => Ok(self.reg(f.rx)),
+            4 => Ok(self.last(f)),
             5 => Ok(f.signed()),
             7 => {
                 let address = self.address(f)?;
@@ -423,7 +419,7 @@ impl Machine {
     }
 
     fn ld(&mut self, f: Fields) -> Result<u32, u8> {
-        f.used()?;
+        f.used_rd()?;
         let value = self.source(f)?;
         self.set_reg(f.rd, value);
         self.next(f.length());
@@ -431,7 +427,7 @@ impl Machine {
     }
 
     fn st(&mut self, f: Fields) -> Result<u32, u8> {
-        f.used()?;
+        f.used_rd()?;
         let value = self.reg(f.rd);
         let address = self.address(f)?;
         if f.mode == 7 {
@@ -452,7 +448,7 @@ impl Machine {
 
     /// ADD to SHRL ("Results and flags").
     fn calculate(&mut self, operation: u16, f: Fields) -> Result<u32, u8> {
-        f.used()?;
+        f.used_rd()?;
         let b = self.source(f)?;
         let a = self.reg(f.rd);
         let (result, vc) = match operation {
@@ -490,7 +486,6 @@ impl Machine {
         if f.rd == 13 {
             return Err(UNDEFINED);
         }
-        f.used_rx()?;
         let target = self.address(f)?;
         if condition(f.rd, self.flag) {
             self.pc = target;
@@ -502,7 +497,6 @@ impl Machine {
     }
 
     fn call(&mut self, f: Fields) -> Result<u32, u8> {
-        f.used_rx()?;
         let target = self.address(f)?;
         self.push_word(self.pc.wrapping_add(4))?;
         self.pc = target;
@@ -554,7 +548,7 @@ impl Machine {
     }
 
     fn input(&mut self, f: Fields) -> Result<u32, u8> {
-        f.used()?;
+        f.used_rd()?;
         self.need(P | I)?;
         let port = self.address(f)?;
         let value = self.port_in(port);
@@ -564,7 +558,7 @@ impl Machine {
     }
 
     fn output(&mut self, f: Fields) -> Result<u32, u8> {
-        f.used()?;
+        f.used_rd()?;
         self.need(P | I)?;
         let port = self.address(f)?;
         self.port_out(port, self.reg(f.rd));

@@ -6,16 +6,9 @@ use crate::timer::{Timer, CONTROL_BITS, INTERRUPT, START};
 use std::cell::Cell;
 use std::ops::AddAssign;
 
-/// The events of a timer, each with its name.
-macro_rules! events {
-    ($($event:ident $name:literal)*) => {
-        #[derive(Clone, Copy, Debug)]
-        enum Event { $($event),* }
-        const NAMES: &[&str] = &[$($name),*];
-    };
-}
-
-events! {
+// The events of a timer.
+named! {
+    Event NAMES:
     CountRead "count read"
     FiredRead "fired read"
     ClearRead "clear read"

@@ -1,6 +1,6 @@
 //! Programs that mostly run on without a fault, with nasty words mixed in.
 
-use crate::assemble::put_words;
+use crate::assemble::{self, put_words};
 use crate::emulator::{Machine, EXECUTE, READ, WRITE};
 use crate::rng::Rng;
 use crate::sample::{self, edge, number, ALU, PORTS, TIMER_PORTS};
@@ -40,11 +40,7 @@ impl Ground {
 
     /// Where the page lies in memory.
     pub fn frame(&self, tlb: &[u32; 8], page: u8) -> usize {
-        let frame = match sample::serving(tlb, page) {
-            Some(entry) if self.translated => entry as u8,
-            _ => page,
-        };
-        frame as usize * 256
+        sample::frame(tlb, page, self.translated) as usize * 256
     }
 
     /// A page that can be both read and written, if there is one.
@@ -88,6 +84,8 @@ const READ_WORD: u16 = 8;
 const WRITE_WORD: u16 = 9;
 const READ_BYTE: u16 = 10;
 const WRITE_BYTE: u16 = 11;
+// Register 15, the address of the following instruction.
+const PC: u16 = assemble::PC as u16;
 
 /// Sets pointers, FP and SP for the ground.
 pub fn set_pointers(rng: &mut Rng, machine: &mut Machine, ground: &Ground) {
@@ -122,8 +120,8 @@ pub fn write(rng: &mut Rng, machine: &mut Machine, ground: &Ground, style: Style
         pages.push((page, words, targets));
     }
     for (page, mut words, targets) in pages {
-        for at in targets {
-            words[at] = rng.pick(&starts);
+        for (at, from) in targets {
+            words[at] = rng.pick(&starts).wrapping_sub(from);
         }
         let place = ground.frame(&machine.tlb, page);
         put_words(&mut machine.memory, place, &words);
@@ -140,8 +138,8 @@ struct Writer<'a> {
     words: Vec<u16>,
     /// Addresses at which an instruction begins that jumps may take.
     starts: Vec<u16>,
-    /// Words that become one of the starts.
-    targets: Vec<usize>,
+    /// Words that become one of the starts, less what is added to each.
+    targets: Vec<(usize, u16)>,
 }
 
 impl<'a> Writer<'a> {
@@ -170,19 +168,46 @@ impl<'a> Writer<'a> {
         while self.words.len() < last {
             self.word(0x00, 0, 0);
         }
-        self.word(0xA0, 15, 0);
-        self.target();
+        self.jump_if(15);
         self.words.truncate(128);
-        self.targets.retain(|&at| at < 128);
+        self.targets.retain(|&(at, _)| at < 128);
     }
 
     fn word(&mut self, first: u8, rd: u16, rx: u16) {
         self.words.push((first as u16) << 8 | rd << 4 | rx);
     }
 
-    fn target(&mut self) {
-        self.targets.push(self.words.len());
+    /// The address behind so many more words.
+    fn behind(&self, words: usize) -> u16 {
+        self.base.wrapping_add(2 * (self.words.len() + words) as u16)
+    }
+
+    /// A word that becomes one of the starts, less what is added to it.
+    fn target(&mut self, from: u16) {
+        self.targets.push((self.words.len(), from));
         self.words.push(0);
+    }
+
+    /// An instruction in mode 1 that leads to an address, by a pointer or by PC.
+    fn indexed(&mut self, first: u8, rd: u16, address: u16) {
+        let rx = self.rng.pick(&[8, 9, 10, 11, 12, PC, PC]);
+        let index = if rx == PC { self.behind(2) } else { self.regs[rx as usize] };
+        self.word(first, rd, rx);
+        self.words.push(address.wrapping_sub(index));
+    }
+
+    /// Can the word behind the next one be read, or written, by this list of pages?
+    fn open(&self, pages: &[u8]) -> bool {
+        !self.ground.translated || pages.contains(&((self.behind(1) >> 8) as u8))
+    }
+
+    /// Rx of a read in modes 6 and 7: this pointer, or PC.
+    fn pointer(&mut self, register: u16) -> u16 {
+        if self.open(&self.ground.read) && self.rng.chance(30) {
+            PC
+        } else {
+            register
+        }
     }
 
     fn data_register(&mut self) -> u16 {
@@ -198,10 +223,11 @@ impl<'a> Writer<'a> {
             14..=29 => self.store(),
             30..=63 => self.alu(),
             64..=79 => self.jump(),
-            80..=85 => {
+            80..=82 => {
                 self.word(0xA8, 0, 0);
                 self.words.push(self.base);
             }
+            83..=85 => self.indexed(0xA9, 0, self.base),
             86..=92 => {
                 let (rd, to) = (self.rng.below(15) as u16, self.data_register());
                 self.word(0xC0, rd, 0);
@@ -212,6 +238,7 @@ impl<'a> Writer<'a> {
                 self.word(0x14, rd, 0);
             }
             95 => self.word(0x00, 0, 0),
+            96..=97 if self.open(&self.ground.write) => self.patch(),
             98 if self.style.kernel => self.reti(),
             _ => self.alu(),
         }
@@ -228,10 +255,8 @@ impl<'a> Writer<'a> {
                 self.words.push(address);
             }
             1 => {
-                let rx = self.rng.between(8, 12) as u16;
-                self.word(base + 1, rd, rx);
                 let address = self.read_address();
-                self.words.push(address.wrapping_sub(self.regs[rx as usize]));
+                self.indexed(base + 1, rd, address);
             }
             2 => {
                 self.word(base + 2, rd, any);
@@ -239,9 +264,18 @@ impl<'a> Writer<'a> {
                 self.words.push(immediate);
             }
             3 | 5 => self.word(base + mode, rd, any),
-            4 => self.word(base + 4, rd, any % 15),
-            6 => self.word(base + 6, rd, READ_WORD),
-            _ => self.word(base + 7, rd, READ_BYTE),
+            4 => {
+                let rs = if self.rng.chance(15) { PC } else { any };
+                self.word(base + 4, rd, rs);
+            }
+            6 => {
+                let rx = self.pointer(READ_WORD);
+                self.word(base + 6, rd, rx);
+            }
+            _ => {
+                let rx = self.pointer(READ_BYTE);
+                self.word(base + 7, rd, rx);
+            }
         }
     }
 
@@ -262,10 +296,8 @@ impl<'a> Writer<'a> {
                 self.words.push(address);
             }
             1 => {
-                let rx = self.rng.between(8, 12) as u16;
-                self.word(0x11, rd, rx);
                 let address = self.write_address();
-                self.words.push(address.wrapping_sub(self.regs[rx as usize]));
+                self.indexed(0x11, rd, address);
             }
             2 => {
                 let d4 = self.rng.below(16) as u16;
@@ -296,8 +328,32 @@ impl<'a> Writer<'a> {
                 break condition;
             }
         };
-        self.word(0xA0, condition, 0);
-        self.target();
+        self.jump_if(condition);
+    }
+
+    /// A jump to one of the starts, direct or by PC.
+    fn jump_if(&mut self, condition: u16) {
+        if self.rng.chance(25) {
+            let following = self.behind(2);
+            self.word(0xA1, condition, PC);
+            self.target(following);
+        } else {
+            self.word(0xA0, condition, 0);
+            self.target(0);
+        }
+    }
+
+    /// A store by PC into the next instruction, in modes 6 and 7: a sum or the like before and after.
+    fn patch(&mut self) {
+        let (rd, result) = (self.data_register(), self.data_register());
+        let [before, after] = [(); 2].map(|_| self.rng.pick(&[0x1D, 0x25, 0x3D, 0x45, 0x4C, 0x8D]));
+        let short = self.rng.below(16) as u16;
+        let word = (after as u16) << 8 | result << 4 | short;
+        let byte = self.rng.chance(50);
+        self.word(0x0A, rd, 0);
+        self.words.push(if byte { after as u16 } else { word });
+        self.word(if byte { 0x17 } else { 0x16 }, rd, PC);
+        self.word(before, result, short);
     }
 
     fn port(&mut self) {
@@ -309,6 +365,10 @@ impl<'a> Writer<'a> {
             let value = sample::timer_word(self.rng, port);
             self.words.push(value);
         }
+        if self.rng.chance(20) {
+            self.word(first + 6, rd, PC);
+            return;
+        }
         self.word(first, rd, 0);
         self.words.push(port);
     }
@@ -316,7 +376,7 @@ impl<'a> Writer<'a> {
     /// Pushes a PC and a FLAG, then RETI, back to P=1 mostly.
     fn reti(&mut self) {
         self.word(0x0A, 0, 0);
-        self.target();
+        self.target(0);
         self.word(0xC0, 0, 0);
         self.word(0x0A, 1, 0);
         let privilege = if self.rng.chance(70) { 0x40 } else { 0 };

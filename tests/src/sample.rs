@@ -66,12 +66,13 @@ pub fn value(rng: &mut Rng, pages: &[u8]) -> u16 {
     }
 }
 
-/// An instruction word: a valid first byte mostly, any word at times.
+/// An instruction word: a valid first byte mostly, any word at times. Its last field is 15 more often than others.
 pub fn instruction_word(rng: &mut Rng, first_bytes: &[u8]) -> u16 {
     if rng.chance(10) {
         return rng.word();
     }
-    u16::from_be_bytes([rng.pick(first_bytes), rng.byte()])
+    let last = if rng.chance(15) { 15 } else { 0 };
+    u16::from_be_bytes([rng.pick(first_bytes), rng.byte() | last])
 }
 
 const RIGHTS: [u32; 12] = [
@@ -202,4 +203,12 @@ pub fn milliseconds(rng: &mut Rng, timers: &[Timer; 2]) -> u16 {
 /// The entry that serves a page: the lowest valid one with it.
 pub fn serving(tlb: &[u32; 8], page: u8) -> Option<u32> {
     tlb.iter().copied().find(|e| e & VALID != 0 && e >> 16 == page as u32)
+}
+
+/// The frame of a page; the page itself if it is not translated or not there.
+pub fn frame(tlb: &[u32; 8], page: u8, translated: bool) -> u8 {
+    match serving(tlb, page) {
+        Some(entry) if translated => entry as u8,
+        _ => page,
+    }
 }

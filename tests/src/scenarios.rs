@@ -6,8 +6,8 @@ use crate::assemble::*;
 use crate::case::Case;
 use crate::emulator::{DIRTY, E, EXECUTE, FLAG_BITS, I, LINES, P, READ, REFERENCED, VALID, WRITE};
 use crate::rng::Rng;
-use crate::sample::{number, timer_word, PORTS, TIMER_PORTS};
-use crate::scene::{Code, Scene, Way};
+use crate::sample::{number, timer_word, ALU, PORTS, TIMER_PORTS};
+use crate::scene::{place, Code, Scene, Way};
 
 pub struct Scenario {
     pub name: &'static str,
@@ -25,7 +25,10 @@ const fn scenario(name: &'static str, ways: &'static [Way], make: fn(&mut Scene)
     Scenario { name, ways, make }
 }
 
-pub const SCENARIOS: [Scenario; 25] = [
+/// It has a part of its own in `compare`.
+pub const REGISTER_15: Scenario = scenario("register 15", ALL, following);
+
+pub const SCENARIOS: [Scenario; 26] = [
     scenario("first touches", TRANSLATED, first_touches),
     scenario("marks without rights", TRANSLATED, marks_without_rights),
     scenario("entries changed by OUT", USER, entries_changed),
@@ -43,6 +46,7 @@ pub const SCENARIOS: [Scenario; 25] = [
     scenario("a page twice", TRANSLATED, page_twice),
     scenario("stack at an end", ALL, stack_at_an_end),
     scenario("registers 13 and 14", ALL, stack_registers),
+    REGISTER_15,
     scenario("LD FLAG", ALL, flag_loaded),
     scenario("zero divisor in a loop", ALL, zero_divisor),
     scenario("shifts", ALL, shifts),
@@ -334,7 +338,7 @@ fn another_page(s: &mut Scene, base: u16) -> u16 {
     if s.way != User {
         return 0;
     }
-    let (page, frame) = (s.number(), (s.place(base) >> 8) as u8);
+    let (page, frame) = (s.number(), (place(&s.m, base) >> 8) as u8);
     s.map(page, frame, READ | WRITE);
     u16::from_be_bytes([page, 0]).wrapping_sub(base)
 }
@@ -372,17 +376,19 @@ fn stores(s: &mut Scene, target: Target, twice: bool) {
     s.begin_at(&c);
 }
 
-/// An instruction of two words; its data page is there.
-fn two_words(s: &mut Scene, data: u16, target: u16) -> Words {
+/// An instruction of two words, the next in this code, by PC at times; its data page is there.
+fn two_words(s: &mut Scene, c: &Code, data: u16, target: u16) -> Words {
     let rd = s.register();
     let address = data | s.offset() & 0xFE;
+    let pc = s.rng.chance(30);
+    let [data, target] = [address, target].map(|to| if pc { c.by_pc(to) } else { At(to) });
     match s.rng.below(8) {
         0..=1 => ld(rd, Value(number(s.rng))),
-        2 => add(rd, At(address)),
-        3 => st(rd, At(address)),
-        4 => jump(s.condition(), At(target)),
-        5 => call(At(target)),
-        6 => jump(ALWAYS, At(target)),
+        2 => add(rd, data),
+        3 => st(rd, data),
+        4 => jump(s.condition(), target),
+        5 => call(target),
+        6 => jump(ALWAYS, target),
         _ => output(rd, At(0x18)),
     }
 }
@@ -421,7 +427,7 @@ fn across(s: &mut Scene, data: u16, end: u16) {
     let start = end.wrapping_sub(2 * before.concat().len() as u16 + short);
     let target = s.rng.pick(&[start, start, end.wrapping_add(2)]);
     let mut c = Code { start, words: before.concat() };
-    c.add(if s.rng.chance(75) { two_words(s, data, target) } else { word(s.one_word()) });
+    c.add(if s.rng.chance(75) { two_words(s, &c, data, target) } else { word(s.one_word()) });
     s.tame_up_to(&mut c, 3);
     c.add(sub(7, Short(1)));
     c.add(jump(ALWAYS, At(start)));
@@ -537,6 +543,93 @@ fn stack_registers(s: &mut Scene) {
     }
     s.end_turns(&mut c, top);
     s.begin_at(&c);
+}
+
+/// Register 15 as Rs and as Rx in every instruction and mode that has it, as Rd at times. The code stands anywhere, in
+/// the first page, where its addresses are ports, or over the end of memory. A run may begin with such an instruction.
+fn following(s: &mut Scene) {
+    let rights = s.rng.pick(&[ANY, ANY, ANY, READ | EXECUTE, EXECUTE]);
+    let data = s.data(READ | WRITE);
+    s.m.usp = data | 0x80;
+    let place = s.rng.below(8);
+    let mut c = match place {
+        0..=1 => Code::at(s.page_at(0x00, rights) + 2 * s.rng.below(0x4C) as u16),
+        2..=3 => {
+            s.page_at(0x00, rights);
+            // The first use stands at FFFEh or FFFCh.
+            Code::at(s.page_at(0xFF, rights) + s.rng.pick(&[0xFA, 0xF8]))
+        }
+        _ => {
+            let base = s.page(rights);
+            s.code_in(base)
+        }
+    };
+    let top = s.turns(&mut c);
+    let mut uses = Vec::new();
+    for _ in 0..s.rng.between(2, 7) {
+        uses.push(by_following(s, &mut c, data));
+        s.tame_up_to(&mut c, 1);
+    }
+    if s.rng.chance(25) {
+        uses.push(c.here());
+        c.add(as_rd(s, data));
+    }
+    s.end_turns(&mut c, top);
+    s.begin_at(&c);
+    if s.rng.chance(45) {
+        s.m.pc = if s.rng.chance(40) { uses[0] } else { s.rng.pick(&uses) };
+    }
+}
+
+/// An instruction with register 15 as its last field, and what it needs before and behind it; gives its address.
+fn by_following(s: &mut Scene, c: &mut Code, data: u16) -> u16 {
+    let rd = s.register();
+    let first = if s.rng.chance(20) { 0x08 } else { s.rng.pick(&ALU) };
+    let (at, far) = (c.here(), c.by_pc(data | s.offset() & 0xFE));
+    match s.rng.below(14) {
+        0..=1 => c.add(moded(first, rd, Register(PC))),
+        2..=3 => c.add(moded(first, rd, far)),
+        4 => c.add(moded(first, rd, Pointer(PC))),
+        5 => c.add(moded(first, rd, Byte(PC))),
+        6 => c.add(st(rd, far)),
+        7..=8 => return store_next(s, c),
+        // Over the one word that follows.
+        9..=10 => {
+            c.add(jump(s.condition(), Indexed(2, PC)));
+            c.add(word(s.one_word()));
+        }
+        11 => {
+            c.add(call(Indexed(s.rng.pick(&[0, 2]), PC)));
+            c.add(no());
+            c.add(pop(rd));
+        }
+        _ => c.add(moded(s.rng.pick(&[0xB0, 0xB8]), rd, Pointer(PC))),
+    }
+    at
+}
+
+/// A store by PC of the next word, or of its first byte; gives the store's address.
+fn store_next(s: &mut Scene, c: &mut Code) -> u16 {
+    let [before, after] = [(); 2].map(|_| s.one_word());
+    let byte = s.rng.chance(50);
+    c.add(ld(5, Value(if byte { after >> 8 } else { after })));
+    let at = c.here();
+    c.add(st(5, if byte { Byte(PC) } else { Pointer(PC) }));
+    c.add(word(before));
+    at
+}
+
+/// An instruction with register 15 as Rd, which is undefined.
+fn as_rd(s: &mut Scene, data: u16) -> Words {
+    let first = s.rng.pick(&[0x08, 0x10, 0x18, 0x28, 0x50]);
+    match s.rng.below(6) {
+        0 => push(PC),
+        1 => pop(PC),
+        2 => ld_flag(PC),
+        3 => moded(s.rng.pick(&[0xB0, 0xB8]), PC, At(0x18)),
+        4 => moded(first, PC, Pointer(PC)),
+        _ => moded(first, PC, At(data)),
+    }
 }
 
 /// FLAG read behind each result, with all of its upper bits.
@@ -680,7 +773,7 @@ fn stop_in_a_loop(s: &mut Scene) {
     c.add(sub(6, Short(1)));
     c.add(jump(NOT_ZERO, At(top)));
     let stop = s.rng.pick(&[
-        0xF000, 0xFF00, 0xD400, 0xB000, 0xB800, 0x08F0, 0x0C0F, 0x1200, 0xA0D0, 0x0100, 0x7000, 0xC0F0, 0x5D00, 0xFFFF,
+        0xF000, 0xFF00, 0xD400, 0xB000, 0xB800, 0x08F0, 0x1CF0, 0x1200, 0xA0D0, 0x0100, 0x7000, 0xC0F0, 0x5D00, 0xFFFF,
     ]);
     c.add(word(stop));
     c.add(jump(ALWAYS, At(c.start)));

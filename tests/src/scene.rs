@@ -21,6 +21,37 @@ pub enum Way {
     Bare,
 }
 
+impl Way {
+    /// How this machine runs now.
+    pub fn of(m: &Machine) -> Way {
+        match (m.flag & P != 0, m.mmu_on) {
+            (true, _) => Way::Kernel,
+            (false, true) => Way::User,
+            (false, false) => Way::Bare,
+        }
+    }
+}
+
+/// Where an address of the program lies in memory.
+pub fn place(m: &Machine, address: u16) -> usize {
+    let [page, offset] = address.to_be_bytes();
+    let frame = sample::frame(&m.tlb, page, Way::of(m) == Way::User);
+    u16::from_be_bytes([frame, offset]) as usize
+}
+
+/// The word at an even address of the program.
+pub fn word_at(m: &Machine, address: u16) -> u16 {
+    m.get(place(m, address))
+}
+
+/// Writes words at an address of the program, which may go on at 0000h.
+pub fn write(m: &mut Machine, address: u16, words: &[u16]) {
+    for (k, word) in words.iter().enumerate() {
+        let place = place(m, address.wrapping_add(2 * k as u16));
+        put_words(&mut m.memory, place, &[*word]);
+    }
+}
+
 /// First bytes of LD and of ADD to SHRL without DIV and MOD, in mode 0.
 const TAME: [u8; 13] = [0x08, 0x18, 0x20, 0x28, 0x30, 0x38, 0x40, 0x48, 0x50, 0x80, 0x88, 0x90, 0x98];
 
@@ -42,6 +73,11 @@ impl Code {
     /// The address of the next instruction.
     pub fn here(&self) -> u16 {
         self.start.wrapping_add(2 * self.words.len() as u16)
+    }
+
+    /// An operand of the next instruction that leads to an address by PC.
+    pub fn by_pc(&self, address: u16) -> Operand {
+        Indexed(address.wrapping_sub(self.here().wrapping_add(4)), PC)
     }
 
     /// Adds an instruction of two words; gives the place of the second, to be set later.
@@ -142,7 +178,7 @@ impl<'a> Scene<'a> {
     /// A new page with random bytes.
     pub fn data(&mut self, rights: u32) -> u16 {
         let base = self.page(rights);
-        let frame = (self.place(base) >> 8) as u8;
+        let frame = (place(&self.m, base) >> 8) as u8;
         self.fill_frames(&[frame]);
         base
     }
@@ -168,24 +204,6 @@ impl<'a> Scene<'a> {
         }
     }
 
-    /// Where an address of the program lies in memory at the start.
-    pub fn place(&self, address: u16) -> usize {
-        let [page, offset] = address.to_be_bytes();
-        let frame = match sample::serving(&self.m.tlb, page) {
-            Some(entry) if self.way == Way::User => entry as u8,
-            _ => page,
-        };
-        u16::from_be_bytes([frame, offset]) as usize
-    }
-
-    /// Writes words at an address of the program.
-    pub fn put(&mut self, address: u16, words: &[u16]) {
-        for (k, word) in words.iter().enumerate() {
-            let place = self.place(address.wrapping_add(2 * k as u16));
-            put_words(&mut self.m.memory, place, &[*word]);
-        }
-    }
-
     /// Writes a program into another frame than that of its page.
     pub fn put_in_frame(&mut self, frame: u8, code: &Code) {
         put_words(&mut self.m.memory, u16::from_be_bytes([frame, code.start as u8]) as usize, &code.words);
@@ -193,7 +211,7 @@ impl<'a> Scene<'a> {
 
     /// Writes a program; the run begins with it.
     pub fn begin_at(&mut self, code: &Code) {
-        self.put(code.start, &code.words);
+        write(&mut self.m, code.start, &code.words);
         self.m.pc = code.start;
     }
 
@@ -211,7 +229,12 @@ impl<'a> Scene<'a> {
         self.rng.below(16) as i8 - 8
     }
 
-    /// One word: an instruction on G0 to G5 that does not fault; one that does, or another word, now and then.
+    /// One of G0 to G5 as a source, or PC.
+    fn source(&mut self) -> Operand {
+        Register(if self.rng.chance(15) { PC } else { self.register() })
+    }
+
+    /// One word: an instruction on G0 to G5 and PC that does not fault; one that does, or another word, now and then.
     pub fn one_word(&mut self) -> u16 {
         match self.rng.below(20) {
             0 => self.rng.pick(&[0xF000, 0xFF00, 0xD000, 0xC000, 0xC450, 0xB612, 0xBE12]),
@@ -219,13 +242,13 @@ impl<'a> Scene<'a> {
             2 => 0x0000,
             3 => ld_flag(self.register())[0],
             _ => {
-                let source = if self.rng.chance(50) { Register(self.register()) } else { Short(self.short()) };
+                let source = if self.rng.chance(50) { self.source() } else { Short(self.short()) };
                 moded(self.rng.pick(&TAME), self.register(), source)[0]
             }
         }
     }
 
-    /// An instruction on G0 to G5 alone that does not fault.
+    /// An instruction on G0 to G5 and PC alone that does not fault.
     pub fn tame(&mut self) -> Words {
         let rd = self.register();
         match self.rng.below(10) {
@@ -233,7 +256,7 @@ impl<'a> Scene<'a> {
             1 => moded(self.rng.pick(&[0x58, 0x60]), rd, Value(number(self.rng).max(1))),
             2..=4 => moded(self.rng.pick(&TAME), rd, Value(number(self.rng))),
             5..=6 => moded(self.rng.pick(&TAME), rd, Short(self.short())),
-            _ => moded(self.rng.pick(&TAME), rd, Register(self.register())),
+            _ => moded(self.rng.pick(&TAME), rd, self.source()),
         }
     }
 
@@ -264,39 +287,41 @@ impl<'a> Scene<'a> {
         let even = address & if self.rng.chance(98) { 0xFFFE } else { 0xFFFF };
         let rd = self.register();
         let first = if self.rng.chance(45) { 0x10 } else { self.rng.pick(&TAME) };
-        match self.rng.below(10) {
+        match self.rng.below(11) {
             0 => code.add(moded(first, rd, At(even))),
             1 => {
                 let index = number(self.rng);
                 code.add(ld(8, Value(index)));
                 code.add(moded(first, rd, Indexed(even.wrapping_sub(index), 8)));
             }
-            2 => {
+            2 => code.add(moded(first, rd, code.by_pc(even))),
+            3 => {
                 let d4 = self.short();
                 code.add(ld(12, Value(even.wrapping_sub((2 * d4) as u16))));
                 code.add(moded(first, rd, Frame(d4)));
             }
-            3..=4 => {
+            4..=5 => {
                 code.add(ld(9, Value(even)));
                 code.add(moded(first, rd, Pointer(9)));
             }
-            5..=6 => {
+            6..=7 => {
                 code.add(ld(10, Value(address)));
                 code.add(moded(first, rd, Byte(10)));
             }
-            7 => {
-                code.add(ld(13, Value(even.wrapping_add(2))));
-                code.add(push(rd));
-            }
-            8 => {
-                code.add(ld(13, Value(even)));
-                code.add(pop(rd));
-            }
-            _ => {
-                code.add(ld(13, Value(even.wrapping_add(2))));
-                code.add(call(At(code.here().wrapping_add(4))));
-            }
+            _ => self.stack_access(code, even),
         }
+    }
+
+    /// The same by PUSH, POP or CALL.
+    fn stack_access(&mut self, code: &mut Code, address: u16) {
+        let rd = self.register();
+        let instruction = self.rng.below(3);
+        code.add(ld(13, Value(if instruction == 1 { address } else { address.wrapping_add(2) })));
+        code.add(match instruction {
+            0 => push(rd),
+            1 => pop(rd),
+            _ => call(At(code.here().wrapping_add(4))),
+        });
     }
 
     /// OUT of a value, in one of its modes.

@@ -10,6 +10,8 @@ use crate::card::{self, LONGEST};
 use crate::emulator::{C, E, I, MEMORY, P, S, V, Z};
 use crate::image::{self, IMAGE};
 use crate::report::REPORT;
+use crate::sample::ALU;
+use std::slice::from_ref;
 
 /// A call on a card.
 #[derive(Clone, Debug)]
@@ -82,6 +84,7 @@ pub fn all() -> Vec<Stored> {
         lines(),
         runs(),
         operands(),
+        following(),
         entries(),
         switches(),
         flags(),
@@ -245,6 +248,119 @@ fn operands() -> Vec<Stored> {
         each("words stored at FP + 2 × D4", 0, &written),
         each("words stored at FP + 2 × D4, from USP", 14, &written),
     ]
+}
+
+/// Register 15: as Rs and as Rx the address of the following instruction, as Rd undefined. PC shows what came of it.
+fn following() -> Vec<Stored> {
+    [read_by_pc(), written_by_pc(), wrapped_pc(), users_pc(), pc_as_rd()].concat()
+}
+
+/// A run of this code from 0100h on, and one from the NO before it: the library has the first instruction in its step,
+/// then in its fast loop.
+fn twice(start: Card, code: &[Words], steps: u16) -> Card {
+    start.ssp(0x1000).code(0x0100, code).pc(0x0100).run(steps).pc(0x00FE).run(steps + 1)
+}
+
+fn read_by_pc() -> Vec<Stored> {
+    let new = Card::new;
+    let table = new().code(0x0304, &[word(0x5AA4)]);
+    let each = |card, start, steps| {
+        ALU.into_iter().fold(card, |card: Card, first| {
+            card.code(0x0100, &[moded(first, 0, Register(PC))]).register(0, 0x1234).pc(start).run(steps)
+        })
+    };
+    let all = each(each(new().code(0x0102, &[show(0)]), 0x0100, 2), 0x00FE, 3);
+    let port = new().lines(0, 0x5A).code(0x0016, &[input(0, Pointer(PC)), show(0)]);
+    vec![
+        case("LD G0,PC at 0100h", twice(new(), &[ld(0, Register(PC)), show(0)], 2)),
+        case("LD G0,[Dsp+PC] at 0100h", twice(table, &[ld(0, Indexed(0x0200, PC)), show(0)], 2)),
+        case("a word read by [PC]", twice(new(), &[ld(0, Pointer(PC)), show(0)], 2)),
+        case("a byte read by [PC]", twice(new(), &[ld(0, Byte(PC)), show(0)], 2)),
+        case("ADD to SHRL with PC as the source", all),
+        case("IN by [PC] at 0016h", port.pc(0x0016).run(2).pc(0x0014).run(3)),
+    ]
+}
+
+fn written_by_pc() -> Vec<Stored> {
+    let new = Card::new;
+    let far = Indexed(0x0200, PC);
+    let called = new().code(0x0304, &[pop(0), show(0)]);
+    let entry = new().code(0x0080, &[output(1, Pointer(PC)), input(0, At(0x82)), show(0)]).register(1, 0x8534);
+    vec![
+        case(
+            "a word stored at [Dsp+PC]",
+            twice(new().register(1, 0x1357), &[st(1, far), ld(0, At(0x0304)), show(0)], 3),
+        ),
+        case(
+            "ST by [PC] over the next word",
+            twice(new().register(1, 0x0D05), &[st(1, Pointer(PC)), no(), show(0)], 3),
+        ),
+        case(
+            "ST by [PC] over the next byte",
+            twice(new().register(1, 0x220D), &[st(1, Byte(PC)), word(0x0005), show(0)], 3),
+        ),
+        case("JMP [Dsp+PC] at 0100h", twice(new(), &[jump(ALWAYS, far)], 1)),
+        case("JMP [Dsp+PC], not taken", twice(new(), &[jump(ZERO, far)], 1)),
+        case("JMP [Dsp+PC] to itself", twice(new(), &[jump(ALWAYS, Indexed(0xFFFC, PC))], 65_534)),
+        case("CALL [Dsp+PC] at 0100h", twice(called, &[call(far)], 3)),
+        case("OUT by [PC] at 0080h", entry.pc(0x0080).run(3).pc(0x007E).run(4)),
+    ]
+}
+
+/// The following address goes on at 0000h.
+fn wrapped_pc() -> Vec<Stored> {
+    let words = Card::new().code(0x0300, &[word(0x1112), word(0x2224)]).ssp(0x1000);
+    let two = [ld(0, Indexed(0x0300, PC)), show(0)];
+    let one = words.clone().code(0xFFFE, &[ld(0, Register(PC)), jump(ALWAYS, Indexed(0x0300, 0))]);
+    let divided = words.clone().code(0xFFFE, &[div(0, Register(PC))]);
+    let ends = |at: u16| words.clone().code(at, &two).pc(at).run(2).pc(at - 2).run(3);
+    vec![
+        case("LD G0,PC at FFFEh", one.pc(0xFFFE).run(2).pc(0xFFFC).run(3)),
+        case("LD G0,[Dsp+PC] at FFFCh", ends(0xFFFC)),
+        case("LD G0,[Dsp+PC] at FFFEh", ends(0xFFFE)),
+        case("DIV by PC at FFFEh: fault 12", divided.pc(0xFFFE).run(1).pc(0xFFFC).run(2)),
+    ]
+}
+
+/// In user mode with the MMU on, logical addresses.
+fn users_pc() -> Vec<Stored> {
+    // Two words behind the code are read, by PC in a register and by PC.
+    let table =
+        [ld(1, Register(PC)), ld(0, Indexed(12, 1)), add(0, Indexed(6, PC)), show(0), word(0x1111), word(0x0222)];
+    let stored = user(&[no(), st(1, Indexed(0x1310 - 0x1206, PC)), svc()]).register(1, 0x2468);
+    let stored = stored.code(0x0F00, &[ld(2, At(0x3510)), show(2)]);
+    vec![
+        case("a user's LD G0,PC at 1200h", user(&[ld(0, Register(PC)), show(0)]).run(2)),
+        case("a user's table found by PC", user(&table).run(4)),
+        case("a user's ST by [Dsp+PC]", stored.run(9).run(2)),
+        case("a user's jump by [Dsp+PC] to itself", user(&[jump(ALWAYS, Indexed(0xFFFC, PC))]).run(65_535)),
+        case("11: a read by [PC] without right", violation(user(&[ld(0, Pointer(PC))]).entry(0, 0x12_8134))),
+        case("11: a store by [PC] without right", violation(user(&[no(), st(0, Pointer(PC))]))),
+        case("10: a read by [Dsp+PC]", miss(user(&[no(), ld(0, Indexed(0x6C7A, PC))]))),
+        case("13: IN by [PC] of a user", user(&[input(0, Pointer(PC))]).run(9)),
+    ]
+}
+
+/// Fault 14, in the kernel at once and of a user behind a NO.
+fn pc_as_rd() -> Vec<Stored> {
+    let bad = [
+        ("LD PC,PC", ld(PC, Register(PC))),
+        ("ST PC,[1310h]", st(PC, At(0x1310))),
+        ("ST PC,[PC]", st(PC, Pointer(PC))),
+        ("LD PC,FLAG", ld_flag(PC)),
+        ("ADD PC,G0", add(PC, Register(0))),
+        ("CMP PC,G0", cmp(PC, Register(0))),
+        ("SHRL PC,1", shrl(PC, Short(1))),
+        ("IN PC,[18h]", input(PC, At(0x18))),
+        ("OUT PC,[18h]", output(PC, At(0x18))),
+        ("PUSH PC", push(PC)),
+        ("POP PC", pop(PC)),
+    ];
+    let both = |code: Words| {
+        let kernel = Card::new().ssp(0x1000).code(0x0100, from_ref(&code)).pc(0x0100).run(2);
+        kernel.then(user(&[no(), code])).run(9)
+    };
+    bad.map(|(name, code)| case(format!("14: {name}"), both(code))).to_vec()
 }
 
 /// Command 05.
@@ -462,7 +578,7 @@ fn faults() -> Vec<Stored> {
         case("13: before the second word", order),
         case("14: an undefined first byte", user(&[word(0x0100)]).run(9).run(0)),
         case("14: jump condition Dh", user(&[jump(13, At(0x1200))]).run(9)),
-        case("14: a used register field of 15", user(&[no(), ld(15, Short(1))]).run(9)),
+        case("14: register 15 as Rd", user(&[no(), ld(PC, Short(1))]).run(9)),
         case("a loop over mapped data", sum),
         case("requests one after the other: user, kernel, user", requests.run(20).run(20).run(20).run(5)),
         case("15: SVC, with the following PC and the user's FLAG", user(&[no(), svc()]).flag(C).run(9).run(0)),

@@ -12,7 +12,7 @@
 
 static struct machine start, machine;
 
-/* Every word is one that divides, every register an even address away from the code. */
+/* Every word is one that divides, every register but PC an even address away from the code. */
 static void prepare(void)
 {
     machine_reset(&start);

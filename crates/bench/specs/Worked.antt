@@ -8,7 +8,7 @@ use Rattle.command.specs.Card.{readAtMost, readFrom, readingOf, runsIn}
 use Rattle.command.specs.Command.{commandOf, goodOf, operandsOf, parsedOf}
 use Rattle.card.specs.Effect.{effectOf, executeOf}
 use Rattle.settings.specs.Settings.{withRegister}
-use Rattle.decode.specs.Decode.{fieldsBad, firstOf, hasSecond, usesRx}
+use Rattle.decode.specs.Decode.{firstOf, hasSecond}
 use Rattle.decode.specs.Instructions.{eight, row, rows, single}
 use Rattle.decode.specs.Opcode.{costOf, inModes, inRows, modeBits, opcodeOf, statesAt}
 use Rattle.image.specs.Decode.{conditionFrom, stateFrom}
@@ -50,6 +50,6 @@ unfolding benchOf cardCall filledPart cardValid readAtMost readFrom readingOf ru
     memoryValid imageValid goodImage flagGood pendingGood allZeros zerosGood timerGood countGood controlGood reportFits stateFrom conditionFrom
     listingOf runsText linesOf lineOf endingText numberText decimalOf hexOf reportOf wordBytes
     runOf runFrom commit stepOf afterOperation bodyOf eventOf enterOf pushed flagWord
-    fieldsBad firstOf hasSecond usesRx costOf eight inModes inRows modeBits opcodeOf row rows single statesAt accessOf alignedAccess stored
+    firstOf hasSecond costOf eight inModes inRows modeBits opcodeOf row rows single statesAt accessOf alignedAccess stored
     needOf transferOf endOf interruptIn planFetch planFirst planOf planOperand planSecond
 worked-listing = refl

@@ -11,7 +11,7 @@ use lib.Dec.{eqb, lit<}
 use lib.ListN.{getD}
 use Rattle.jump.specs.Laws.{undefined-thirteen}
 use Rattle.word.specs.Word.{upper}
-use Rattle.decode.specs.Decode.{fieldsBad, firstIn, firstOf, hasSecond, rdBad, rdField, rxField, usesRx}
+use Rattle.decode.specs.Decode.{firstIn, firstOf, hasSecond, rdBad, rdField, rxField}
 use Rattle.decode.specs.Entry.{accessNumber, byNumber, entryOf, flowNumber, packed, packedRow, privilegeNumber, rdNumber, tableFrom, tableOf}
 use Rattle.decode.specs.Instructions.{RdUse, Row, condition, eight, register, row, rows, single, unused}
 use Rattle.decode.specs.Opcode.{Opcode, costOf, known, opcodeOf, unknown}
@@ -79,11 +79,11 @@ flow-small Shift = lit< tt
 
 -- ---- the first word by its entry
 
--- `e` is the entry of the byte, `f` that of the number
-abbrev pub badEntry : ℕ → ℕ → ℕ → ℕ → Bool
-badEntry e f rd rx =
-    ((eqb rd 15 && eqb (f % 4) 1) || (eqb rd 13 && eqb (f % 4) 2)) || (eqb rx 15 && usesRx (e / 0x20 % 16))
+-- the row's entry f has the field Rd undefined
+abbrev pub badRow : ℕ → ℕ → Bool
+badRow f rd = (eqb rd 15 && eqb (f % 4) 1) || (eqb rd 13 && eqb (f % 4) 2)
 
+-- `e` is the entry of the byte, `f` that of the number
 abbrev pub shapeEntry : ℕ → ℕ → ℕ → Shape
 shapeEntry e f w =
     record {
@@ -100,12 +100,12 @@ shapeEntry e f w =
 
 abbrev pub firstEntry : ℕ → ℕ → ℕ → First
 firstEntry e f w =
-    cond (eqb e 0) Undefined (cond (badEntry e f (rdField w) (rxField w)) Undefined (Defined (shapeEntry e f w)))
+    cond (eqb e 0) Undefined (cond (badRow f (rdField w)) Undefined (Defined (shapeEntry e f w)))
 
-pub entry-bad : (e f w : ℕ) → eqb e 0 ≡ false → badEntry e f (rdField w) (rxField w) ≡ true → firstEntry e f w ≡ Undefined
+pub entry-bad : (e f w : ℕ) → eqb e 0 ≡ false → badRow f (rdField w) ≡ true → firstEntry e f w ≡ Undefined
 entry-bad e f w h bad = rw (h, bad)
 
-pub entry-good : (e f w : ℕ) → eqb e 0 ≡ false → badEntry e f (rdField w) (rxField w) ≡ false → firstEntry e f w ≡ Defined (shapeEntry e f w)
+pub entry-good : (e f w : ℕ) → eqb e 0 ≡ false → badRow f (rdField w) ≡ false → firstEntry e f w ≡ Defined (shapeEntry e f w)
 entry-good e f w h good = rw (h, good)
 
 only-left : (a b : Bool) → (a && true) || (b && false) ≡ a
@@ -131,7 +131,6 @@ rd-back condition n h = only-right (eqb n 15) (eqb n 13) ∙ sym (undefined-thir
 rd-back unused n h = neither (eqb n 15) (eqb n 13)
 
 by-row : (r : Row) (m w : ℕ) → Small r m → firstIn (known r m) w ≡ firstEntry (packed (known r m)) (packedRow r) w
-unfolding fieldsBad
 by-row r m w h =
     let b = bits (r .code) m (costOf r m) (h .code) (h .mode) (h .cost) (h .some) in
     let c =

@@ -1,6 +1,6 @@
 -- The decoding of an instruction word. Document 01, "Instruction words".
 -- Assumes nothing.
-use mathlib.Core.Bool.{Bool, cond, false, _&&_, _||_}
+use mathlib.Core.Bool.{Bool, cond, false}
 use Prim.Native.Nat.{ℕ, _%_, _/_}
 use lib.Dec.{eqb, ltb}
 use lib.IntN.{pos, _*ℤ_}
@@ -23,22 +23,16 @@ rdField w = w / 16 % 16
 abbrev pub rxField : ℕ → ℕ
 rxField w = w % 16
 
--- "A used register field of 15 is undefined (H)." "Dh is undefined", of a jump's conditions. "Unused fields aren't looked at (H)."
+-- "A used register field of 15 is undefined (H)." "Dh is undefined", of a jump's conditions. "Unused fields aren't looked at (H)." Document 02,
+-- 4/14: register 15 is defined as Rs or Rx; "As Rd, in PUSH and in POP it remains undefined."
 abbrev pub rdBad : RdUse → ℕ → Bool
 rdBad register n = eqb n 15
 rdBad condition n = conditionUndefined n
 rdBad unused n = false
 
--- the last field is a register's in modes 1, 4, 6 and 7
-unfoldable pub usesRx : ℕ → Bool
-usesRx mode = eqb mode 1 || (eqb mode 4 || (eqb mode 6 || eqb mode 7))
-
 -- "Modes 0-2 have a second word."
 unfoldable pub hasSecond : ℕ → Bool
 hasSecond mode = ltb mode 3
-
-unfoldable pub fieldsBad : RdUse → ℕ → ℕ → ℕ → Bool
-fieldsBad field mode rd rx = rdBad field rd || (eqb rx 15 && usesRx mode)
 
 -- a defined first word: its row, its mode, its fields, whether a second word follows, its states
 abbrev pub shapeOf : Row → ℕ → ℕ → Shape
@@ -57,7 +51,7 @@ shapeOf r mode w =
 
 abbrev pub firstIn : Opcode → ℕ → First
 firstIn unknown w = Undefined
-firstIn (known r mode) w = cond (fieldsBad (r .rd) mode (rdField w) (rxField w)) Undefined (Defined (shapeOf r mode w))
+firstIn (known r mode) w = cond (rdBad (r .rd) (rdField w)) Undefined (Defined (shapeOf r mode w))
 
 -- what the first word of an instruction says
 unfoldable pub firstOf : ℕ → First

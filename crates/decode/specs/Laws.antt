@@ -1,7 +1,7 @@
 -- Laws of the decoding: what a test says of every row in each of its modes holds of each first byte and of each defined first word. Two such
 -- tests: the numbers are small; and an instruction for anyone is none that a privilege guards.
 -- Assumes nothing.
-use mathlib.Core.Bool.{Bool, cond, false, not, true, _&&_, _||_}
+use mathlib.Core.Bool.{Bool, not, true, _&&_, _||_}
 use mathlib.Core.List.{List, [], _∷_}
 use mathlib.Core.Path.{refl, subst, sym, _≡_}
 use Prim.Native.Nat.{ℕ, _+_, _<_}
@@ -11,7 +11,7 @@ use lib.Dec.{eqb, ltb}
 use Rattle.word.specs.Cases.{either, rest, this}
 use Rattle.word.specs.Word.{upper}
 use Rattle.decode.specs.Code.{HALT, IN, OUT, RETI}
-use Rattle.decode.specs.Decode.{fieldsBad, firstIn, firstOf, rdField, rxField, shapeOf}
+use Rattle.decode.specs.Decode.{firstIn, firstOf, rdBad, rdField, shapeOf}
 use Rattle.decode.specs.Instructions.{Row, addStates, divStates, eight, row, rows, shiftStates, single}
 use Rattle.decode.specs.Opcode.{Opcode, costOf, inModes, inRows, known, modeBits, opcodeOf, statesAt, unknown}
 use Rattle.decode.specs.declared.First.{First}
@@ -68,7 +68,7 @@ module _ (test : Row → ℕ → Bool) where
     first-has : (o : Opcode) (w : ℕ) → OpcodeHas o → FirstHas w (firstIn o w)
     first-has unknown w h = tt
     first-has (known r m) w h =
-        either (FirstHas w) (fieldsBad (r .rd) m (rdField w) (rxField w)) (λ _. tt)
+        either (FirstHas w) (rdBad (r .rd) (rdField w)) (λ _. tt)
         (λ _. record { row = r; mode = m; has = h; is = refl })
 
     pub decoded-has : (w : ℕ) (shape : Shape) → Defined shape ≡ firstOf w → Decoded w shape

@@ -8,6 +8,7 @@ mod table;
 pub use opcode::NO_CONDITION;
 pub use opcode::first_word;
 pub use operands::decoded;
+pub use operands::frame_offset;
 pub use table::Table;
 pub use table::entries;
 

@@ -8,11 +8,12 @@ use crate::First;
 use crate::Flow;
 use crate::Privilege;
 use crate::Shape;
+use crate::register;
 use crate::table::NUMBERS;
 use crate::table::Table;
 
-// A used field that is no register.
-const NO_REGISTER: u16 = 15;
+// A register that is none as Rd.
+const PC: u16 = register::PC as u16;
 
 // A jump's condition that is undefined.
 pub const NO_CONDITION: u16 = 13;
@@ -56,13 +57,6 @@ fn flow_from(n: u16) -> Flow
     }
 }
 
-// The last field is a register's.
-fn uses_rx(mode: u16) -> bool
-    ensures { λ r. ⌜ r ≡ def.usesRx mode ⌝ }
-{
-    (mode == 1) | ((mode == 4) | ((mode == 6) | (mode == 7)))
-}
-
 // The first word of an instruction.
 pub fn first_word(table: &Table, word: u16) -> First
     requires { ⌜ now table ≡ tableOf ⌝ }
@@ -78,18 +72,16 @@ pub fn first_word(table: &Table, word: u16) -> First
     let number = NUMBERS + code as usize;
     let row = table[number];
     let rd = word / 16 % 16;
-    let rx = word % 16;
-    let bad_rd = (rd == NO_REGISTER) & (row % 4 == 1);
+    let bad_rd = (rd == PC) & (row % 4 == 1);
     let bad_condition = (rd == NO_CONDITION) & (row % 4 == 2);
-    let bad_rx = (rx == NO_REGISTER) & uses_rx(mode);
-    if bad_rd | bad_condition | bad_rx {
+    if bad_rd | bad_condition {
         return First::Undefined;
     }
     First::Defined(Shape {
         code: code as u8,
         mode: mode as u8,
         rd: rd as u8,
-        rx: rx as u8,
+        rx: (word % 16) as u8,
         second: mode < 3,
         cost: (entry / 0x200 % 128) as u8,
         privilege: privilege_from(row / 4 % 4),

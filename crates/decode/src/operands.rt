@@ -11,7 +11,7 @@ use crate::Operand;
 use crate::Shape;
 
 // Twice D4.
-fn frame_offset(field: u16) -> i16
+pub fn frame_offset(field: u16) -> i16
     ensures { λ r. ⌜ r ≡ signed4 field *ℤ pos 2 ⌝ }
 {
     word::sign_extend(field) * 2

@@ -26,7 +26,7 @@ module _ (map rs : List ℕ) (size : length rs ≡ 16) (m : List ℕ) (h : Hot) 
   at-thirteen : (x : ℕ) → length (set rs 13 x) ≡ 16
   at-thirteen x = length-set rs 13 x ∙ size
 
-  module _ {add : ℕ} (small : modeOf w < 2) (ad : Added rs (modeOf w) w add) (d : ℕ) (fetched : Reads map m Execute Word (plus (h .pc) 2) d) where
+  module _ {add : ℕ} (small : modeOf w < 2) (ad : Added rs (modeOf w) (h .pc) w add) (d : ℕ) (fetched : Reads map m Execute Word (plus (h .pc) 2) d) where
     target : Target map rs m h w d add
     target = record { small = small; added = ad; fetched = fetched }
 

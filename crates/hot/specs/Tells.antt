@@ -20,7 +20,7 @@ use Rattle.word.specs.declared.Width.the-variants.{Word}
 use Rattle.plan.specs.Result.{aluOf}
 use Rattle.status.specs.Flag.{holds}
 use Rattle.word.specs.Word.{minus, plus, upper}
-use Rattle.source.specs.Fields.{RegRead, modeOf}
+use Rattle.source.specs.Fields.{RxRead, modeOf}
 use Rattle.source.specs.Rows.{Computes, addCost, loadCost}
 use Rattle.source.specs.Sources.{Named, Valued}
 use Rattle.hot.specs.declared.Hot.{Hot}
@@ -77,9 +77,9 @@ pub data Divided (rs : List ℕ) (d b : ℕ) (a : Alu) (pc cost : ℕ) (rs′ : 
 -- ---- the instructions that move
 
 -- what is added to the second word in mode 0 and in mode 1
-pub data Added (rs : List ℕ) (mode w r : ℕ) : Type 0 where
-  none : mode ≡ 0 → r ≡ 0 → Added rs mode w r
-  one : (mode ≡ 0 → ⊥) → RegRead rs (w % 16) r → Added rs mode w r
+pub data Added (rs : List ℕ) (mode pc w r : ℕ) : Type 0 where
+  none : mode ≡ 0 → r ≡ 0 → Added rs mode pc w r
+  one : (mode ≡ 0 → ⊥) → RxRead rs (plus pc 4) (w % 16) r → Added rs mode pc w r
 
 -- Rd stored at an address, and on to the next instruction
 pub data Stored (map rs m : List ℕ) (h : Hot) (w : ℕ) (width : Width) (a next cost : ℕ) (m′ : List ℕ) (r : Hot) : Type 0 where
@@ -97,7 +97,7 @@ pub data Stores : ℕ → ℕ → Type 0 where
 -- the second word of a jump or of CALL, and what is added to it
 pub record Target (map rs m : List ℕ) (h : Hot) (w d add : ℕ) : Type 0 where
   pub small : modeOf w < 2
-  pub added : Added rs (modeOf w) w add
+  pub added : Added rs (modeOf w) (h .pc) w add
   pub fetched : Reads map m Execute Word (plus (h .pc) 2) d
 
 -- ---- an instruction

@@ -24,20 +24,21 @@ use source::USP;
 use source::frame_place;
 use source::indexed_place;
 use source::register;
+use source::rx;
 use source::source_of;
 use source::wide;
 use word::Width;
 use word::minus;
 use word::plus;
 
-// What is added to the second word of a jump or of CALL: nothing, or a register.
-fn added(regs: &[u16; 16], mode: u16, w: u16) -> u32
-    ensures { λ r. ⌜ (r < 65536 → Added (now (regs .entry)) mode w r) ⌝ }
+// What is added to the second word of a jump or of CALL: nothing, or Rx.
+fn added(regs: &[u16; 16], mode: u16, pc: u16, w: u16) -> u32
+    ensures { λ r. ⌜ (r < 65536 → Added (now (regs .entry)) mode pc w r) ⌝ }
 {
     if mode == 0 {
         return 0;
     }
-    register(regs, w)
+    rx(regs, plus(pc, 4), w)
 }
 
 // The word at SP.
@@ -62,7 +63,7 @@ impl Hot {
         if n == NO_CONDITION {
             return self.stop();
         }
-        let add = added(regs, mode, w);
+        let add = added(regs, mode, self.pc, w);
         if NONE <= add {
             return self.stop();
         }
@@ -85,7 +86,7 @@ impl Hot {
         if 2 <= mode {
             return self.stop();
         }
-        let add = added(regs, mode, w);
+        let add = added(regs, mode, self.pc, w);
         if NONE <= add {
             return self.stop();
         }
@@ -188,20 +189,23 @@ impl Hot {
                 self.store_at(regs, map, mem, w, Width::Word, a, plus(pc, 4), 6)
             }
             1 => {
-                let a = indexed_place(regs, fetch(map, mem, plus(pc, 2)), w);
-                self.store_at(regs, map, mem, w, Width::Word, a, plus(pc, 4), 6)
+                let next = plus(pc, 4);
+                let a = indexed_place(regs, next, fetch(map, mem, plus(pc, 2)), w);
+                self.store_at(regs, map, mem, w, Width::Word, a, next, 6)
             }
             3 => {
                 let a = wide(frame_place(regs, w));
                 self.store_at(regs, map, mem, w, Width::Word, a, plus(pc, 2), 6)
             }
             6 => {
-                let a = register(regs, w);
-                self.store_at(regs, map, mem, w, Width::Word, a, plus(pc, 2), 5)
+                let next = plus(pc, 2);
+                let a = rx(regs, next, w);
+                self.store_at(regs, map, mem, w, Width::Word, a, next, 5)
             }
             7 => {
-                let a = register(regs, w);
-                self.store_at(regs, map, mem, w, Width::Byte, a, plus(pc, 2), 5)
+                let next = plus(pc, 2);
+                let a = rx(regs, next, w);
+                self.store_at(regs, map, mem, w, Width::Byte, a, next, 5)
             }
             _ => self.stop(),
         }

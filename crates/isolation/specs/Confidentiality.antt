@@ -131,9 +131,9 @@ module _ (m m′ : List ℕ) where
       → planOperand st m ins following ≡ planOperand st m′ ins following
   unfolding planOperand
   operand-same st u agree ins following =
-      let held : ℕ = regOf st (ins .rd) in
-      let address : ℕ = addressOf (regOf st) (ins .operand) in
-      let need : Need = needOf (ins .access) (regOf st) (spOf st) (flagOf st) address (ins .operand) in
+      let held : ℕ = regOf st following (ins .rd) in
+      let address : ℕ = addressOf (regOf st following) (ins .operand) in
+      let need : Need = needOf (ins .access) (regOf st following) (spOf st) (flagOf st) address (ins .operand) in
       ap (λ (x : Transferred). planned (planTransfer (x .transfer) st ins held address following) (withTlb st (x .tlb)))
       (transfer-same (translates st) (on st u) need (st .tlb) agree (valueStored (ins .code) held following))
 

@@ -164,9 +164,9 @@ module _ (st : State) where
     operand-in : (s : State) → Near s → (ins : Instruction) → plain (ins .code) ≡ true → (following : ℕ) → PlannedIn (planOperand s m ins following)
     unfolding planOperand
     operand-in s n ins c following =
-        let held : ℕ = regOf s (ins .rd) in
-        let address : ℕ = addressOf (regOf s) (ins .operand) in
-        let need : Need = needOf (ins .access) (regOf s) (spOf s) (flagOf s) address (ins .operand) in
+        let held : ℕ = regOf s following (ins .rd) in
+        let address : ℕ = addressOf (regOf s following) (ins .operand) in
+        let need : Need = needOf (ins .access) (regOf s following) (spOf s) (flagOf s) address (ins .operand) in
         let value : ℕ = valueStored (ins .code) held following in
         let t : Transferred = transferOf need (translates s) (s .tlb) m value in
         record {

@@ -6,7 +6,7 @@ use mathlib.Core.Path.{_≡_, refl}
 use Prim.Native.Nat.{ℕ, _+_}
 use lib.ListN.{replicate, set}
 use lib.Seq.{sets}
-use Rattle.decode.specs.Decode.{fieldsBad, firstOf, hasSecond, operandOf, usesRx}
+use Rattle.decode.specs.Decode.{firstOf, hasSecond, operandOf}
 use Rattle.decode.specs.Instructions.{eight, row, rows, single}
 use Rattle.decode.specs.Opcode.{inModes, inRows, modeBits, opcodeOf}
 use Rattle.direct.specs.Call.{runCall}
@@ -87,7 +87,7 @@ pub record Looks : Type 0 where
 pub worked-look : Looks
 unfolding image memory report fault firstIn secondIn faultCall runCall memoryValid imageValid goodImage flagGood pendingGood allZeros zerosGood timerGood
     countGood controlGood reportFits stateFrom conditionFrom reportOf imageOf wordBytes entryBytes runOf runFrom commit stepOf enterOf pushed flagWord
-    fieldsBad firstOf hasSecond operandOf usesRx eight inModes inRows modeBits opcodeOf row rows single accessOf alignedAccess byEntry byTlb lookupFrom lookupOf
+    firstOf hasSecond operandOf eight inModes inRows modeBits opcodeOf row rows single accessOf alignedAccess byEntry byTlb lookupFrom lookupOf
     addressOf needOf valueStored transferOf endOf interruptIn planFetch planFirst planOf planOperand planSecond regIn spIn
     afterOperation bodyOf eventOf portElsewhere valueAt recordAfterIn afterInAt regsAfter sspAfter uspAfter stored
 worked-look = record { number = refl; shown = refl; read = refl; gone = refl; readAgain = refl }

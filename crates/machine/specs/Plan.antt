@@ -83,13 +83,13 @@ planTransfer (transfer.Fails why a) st ins held address following = Violation wh
 -- "operand access"
 unfoldable pub planOperand : State → List ℕ → Instruction → ℕ → Planned
 planOperand st m ins following =
-    let held : ℕ = regOf st (ins .rd) in
-    let address : ℕ = addressOf (regOf st) (ins .operand) in
-    let need : Need = needOf (ins .access) (regOf st) (spOf st) (flagOf st) address (ins .operand) in
+    let held : ℕ = regOf st following (ins .rd) in
+    let address : ℕ = addressOf (regOf st following) (ins .operand) in
+    let need : Need = needOf (ins .access) (regOf st following) (spOf st) (flagOf st) address (ins .operand) in
     let t : Transferred = transferOf need (translates st) (st .tlb) m (valueStored (ins .code) held following) in
     planned (planTransfer (t .transfer) st ins held address following) (withTlb st (t .tlb))
 
--- "second word": an instruction without one goes on at once
+-- "second word": an instruction without one goes on at once. The following address is PC + 2, or "counting the second word" (02, 4/14) PC + 4.
 unfoldable pub planSecond : State → List ℕ → Shape → Planned
 planSecond st m shape =
     cond (shape .second)

@@ -129,7 +129,7 @@ pub operand-by :
     → Claim ((planOperand st m ins following) .plan)
 unfolding planOperand
 operand-by Claim st m ins following x =
-    let held : ℕ = regOf st (ins .rd) in
-    let address : ℕ = addressOf (regOf st) (ins .operand) in
-    let need : Need = needOf (ins .access) (regOf st) (spOf st) (flagOf st) address (ins .operand) in
+    let held : ℕ = regOf st following (ins .rd) in
+    let address : ℕ = addressOf (regOf st following) (ins .operand) in
+    let need : Need = needOf (ins .access) (regOf st following) (spOf st) (flagOf st) address (ins .operand) in
     transfer-by Claim ((transferOf need (translates st) (st .tlb) m (valueStored (ins .code) held following)) .transfer) st ins x held address following

@@ -3,7 +3,9 @@ ghost use mathlib.Core.Path.{_≡_};
 ghost use Rattle.machine.specs.Register as def;
 ghost use Rattle.machine.specs.State.{withPc};
 use crate::State;
+use decode::register::FP;
 use decode::register::SP;
+use decode::register::USP;
 
 impl State {
     // Register 13: SSP in kernel mode, USP in user mode.
@@ -13,14 +15,19 @@ impl State {
         if self.flags.p { self.ssp } else { self.usp }
     }
 
-    pub fn register(self, n: u8) -> u16
-        ensures { λ r. ⌜ r ≡ def.regOf self n ⌝ }
+    // Number 15 is the address of the following instruction.
+    pub fn register(self, following: u16, n: u8) -> u16
+        ensures { λ r. ⌜ r ≡ def.regOf self following n ⌝ }
     {
-        if n < SP {
-            let regs = self.regs;
-            return regs[n as usize];
+        match n {
+            SP => self.sp(),
+            USP => self.usp,
+            0..=FP => {
+                let regs = self.regs;
+                regs[n as usize]
+            }
+            _ => following,
         }
-        if n == SP { self.sp() } else { self.usp }
     }
 
     pub fn set_sp(mut self, v: u16) -> State

@@ -86,9 +86,9 @@ impl State {
         let operand = ins.operand;
         let access = ins.access;
         let tlb = self.tlb;
-        let held = self.register(ins.rd);
-        let address = self.address(operand);
-        let need = self.need(access, address, operand);
+        let held = self.register(following, ins.rd);
+        let address = self.address(following, operand);
+        let need = self.need(access, following, address, operand);
         let value = value_stored(ins.code, held, following);
         let t = transfer_for(need, self.translates(), tlb, mem, value);
         let transfer = t.transfer;

@@ -1,6 +1,6 @@
--- A worked pair of calls: a user program that enters the kernel, on two memories that hold different handlers' addresses. `pair`: the
--- premises of `isolated-calls` are met, so what it says holds of the two calls, for every allowance. `entered`: with an allowance of 9 they
--- leave the two handlers' addresses in PC.
+-- A worked pair of calls: a user program that finds its table by the PC and enters the kernel, on two memories that hold different handlers'
+-- addresses. `pair`: the premises of `isolated-calls` are met, so what it says holds of the two calls, for every allowance. `entered`: with an
+-- allowance of 9 they leave the same registers, and the two handlers' addresses in PC.
 -- Assumes nothing.
 use mathlib.Core.Bool.{Bool, false, true, true≢false, _&&_}
 use mathlib.Core.List.{List, [], _∷_}
@@ -10,28 +10,31 @@ use native.Mathlib.Omega.{arith}
 use borrow.Author.Tests.{ltb-true}
 use lib.Dec.{ltb}
 use lib.ListN.{getD, length, length-replicate, length-set, replicate, set}
-use lib.Seq.{getD-set-other}
-use Rattle.decode.specs.Decode.{fieldsBad, firstOf, hasSecond, usesRx}
+use lib.Seq.{getD-set-other, length-sets, sets}
+use Rattle.decode.specs.Decode.{firstOf, hasSecond, operandOf}
 use Rattle.decode.specs.Instructions.{eight, row, rows, single}
-use Rattle.decode.specs.Opcode.{inModes, inRows, modeBits, opcodeOf}
+use Rattle.decode.specs.Opcode.{costOf, inModes, inRows, modeBits, opcodeOf, statesAt}
 use Rattle.image.specs.Decode.{conditionFrom, stateFrom}
 use Rattle.layout.specs.Entries.{entryBytes}
 use Rattle.image.specs.Image.{imageOf}
-use Rattle.layout.specs.Layout.{imageSize, mmuAt, pcAt, sspAt, tlbAt}
+use Rattle.layout.specs.Layout.{imageSize, mmuAt, pcAt, regsAt, sspAt, tlbAt}
 use Rattle.layout.specs.Valid.{allZeros, controlGood, countGood, flagGood, goodImage, imageValid, memoryValid, pendingGood, timerGood, zerosGood}
 use Rattle.isolation.specs.Statement.{hasRight, visible}
 use Rattle.machine.specs.Enter.{enterOf}
+use Rattle.machine.specs.Execute.{afterOperation, bodyOf, eventOf}
 use Rattle.status.specs.Saved.{pushed}
 use Rattle.status.specs.Flag.{flagWord}
-use Rattle.transfer.specs.Need.{needOf}
+use Rattle.transfer.specs.Need.{addressOf, loadNeed, needOf, valueStored}
 use Rattle.machine.specs.Plan.{planFetch, planFirst, planOf, planOperand, planSecond}
 use Rattle.status.specs.Pending.{interruptIn}
 use Rattle.plan.specs.End.{endOf}
+use Rattle.machine.specs.Register.{regIn, regsAfter, spIn, sspAfter, uspAfter}
 use Rattle.machine.specs.Run.{runFrom, runOf}
 use Rattle.machine.specs.Step.{commit, stepOf}
 use Rattle.transfer.specs.Transfer.{transferOf}
 use Rattle.mmu.specs.Access.{accessOf, alignedAccess, byEntry, byTlb}
 use Rattle.mmu.specs.Lookup.{lookupFrom, lookupOf}
+use Rattle.memory.specs.Memory.{stored}
 use Rattle.refusal.specs.Refusal.{reportFits}
 use Rattle.refusal.specs.declared.Validity.the-variants.{Good}
 use Rattle.report.specs.Layout.{reportSize}
@@ -39,6 +42,7 @@ use Rattle.report.specs.Report.{reportOf}
 use Rattle.roundtrip.specs.Each.{each-set}
 use Rattle.roundtrip.specs.Statement.{Byte, Bytes}
 use Rattle.direct.specs.Call.{runCall}
+use Rattle.refusal.specs.Call.{Call}
 use Rattle.view.specs.Call.{runValid}
 use Rattle.endian.specs.Bytes.{wordBytes, wordFrom}
 use Rattle.word.specs.Cases.{rest, this}
@@ -53,9 +57,13 @@ unfoldable pub image : List ℕ
 image =
     set (set (set (set (set (set (replicate imageSize 0) sspAt 0x01) pcAt 0x12) mmuAt 1) tlbAt 0x12) (tlbAt + 1) 0x85) (tlbAt + 2) 0x34
 
--- zero but SVC at 3400h, which the program finds at 1200h
+-- at 1200h LD G0,PC, at 1202h LD G1,[4+PC], at 1206h SVC, and at 120Ah, which is 4 + 1206h, the table: 1234h
+unfoldable pub program : List ℕ
+program = wordBytes (0x0c0f ∷ 0x091f ∷ 0x0004 ∷ 0xf000 ∷ 0 ∷ 0x1234 ∷ [])
+
+-- zero but the program at 3400h, which is at 1200h for the user
 unfoldable pub memory : List ℕ
-memory = set (replicate 65536 0) 0x3400 0xf0
+memory = sets (replicate 65536 0) 0x3400 program
 
 -- the vector of SVC, at FFFEh, is another: the handler is at 2000h, not at 0000h
 unfoldable pub memory′ : List ℕ
@@ -88,9 +96,18 @@ image-bytes : Bytes image
 unfolding image
 image-bytes = small-bytes image refl
 
+sets-bytes : (bs : List ℕ) → small bs ≡ true → (l : List ℕ) (k : ℕ) → Bytes l → Bytes (sets l k bs)
+sets-bytes [] e l k h = h
+sets-bytes (b ∷ bs) e l k h =
+    sets-bytes bs (rest (ltb b 256) (small bs) e) (set l k b) (suc k) (set-bytes l k b (ltb-true b 256 (this (ltb b 256) (small bs) e)) h)
+
+program-small : small program ≡ true
+unfolding program wordBytes
+program-small = refl
+
 memory-bytes : Bytes memory
 unfolding memory
-memory-bytes = set-bytes (replicate 65536 0) 0x3400 0xf0 (omega arith) (zero-bytes 65536)
+memory-bytes = sets-bytes program program-small (replicate 65536 0) 0x3400 (zero-bytes 65536)
 
 memory-bytes′ : Bytes memory′
 unfolding memory′
@@ -98,7 +115,7 @@ memory-bytes′ = set-bytes memory 0xfffe 0x20 (omega arith) memory-bytes
 
 memory-long : length memory ≡ 65536
 unfolding memory
-memory-long = length-set {A = ℕ} (replicate 65536 0) 0x3400 0xf0 ∙ length-replicate {A = ℕ} 65536 0
+memory-long = length-sets {A = ℕ} (replicate 65536 0) 0x3400 program ∙ length-replicate {A = ℕ} 65536 0
 
 memory-long′ : length memory′ ≡ 65536
 unfolding memory′
@@ -138,12 +155,25 @@ tested = ap (λ (n : ℕ). runValid n image (length report)) memory-long
 pub pair : (allowance : ℕ) → Shared memory memory′ image (runCall memory image allowance report) (runCall memory′ image allowance report)
 pair allowance = isolated-calls memory memory′ image allowance report (memory-long ∙ sym memory-long′) .passed tested given
 
--- SVC enters the kernel with 15, after one step of 12 states; the saved PC is 1202h, and PC the handler's address, another in each memory
-pub entered :
-    ((runCall memory image 9 report) .report ≡ 1 ∷ 15 ∷ 0 ∷ 1 ∷ 0 ∷ 0 ∷ 0 ∷ 12 ∷ 0x12 ∷ 0x02 ∷ 0 ∷ 0 ∷ [])
-    × ((wordFrom ((runCall memory image 9 report) .image) pcAt ≡ 0) × (wordFrom ((runCall memory′ image 9 report) .image) pcAt ≡ 0x2000))
-unfolding image memory memory′ report runCall memoryValid imageValid goodImage flagGood pendingGood allZeros zerosGood timerGood
+-- what the two calls leave with an allowance of 9
+pub record Ends (call call′ : Call) : Type 0 where
+  -- SVC enters the kernel with 15, after three steps of 4, 7 and 12 states; the saved PC is 1208h
+  pub report : call .report ≡ 1 ∷ 15 ∷ 0 ∷ 3 ∷ 0 ∷ 0 ∷ 0 ∷ 23 ∷ 0x12 ∷ 0x08 ∷ 0 ∷ 0 ∷ []
+  pub report′ : call′ .report ≡ call .report
+  -- G0 has the following address, G1 the table's word
+  pub counter : wordFrom (call .image) regsAt ≡ 0x1202
+  pub counter′ : wordFrom (call′ .image) regsAt ≡ 0x1202
+  pub table : wordFrom (call .image) (regsAt + 2) ≡ 0x1234
+  pub table′ : wordFrom (call′ .image) (regsAt + 2) ≡ 0x1234
+  -- PC is the handler's address, another in each memory
+  pub handler : wordFrom (call .image) pcAt ≡ 0
+  pub handler′ : wordFrom (call′ .image) pcAt ≡ 0x2000
+
+pub entered : Ends (runCall memory image 9 report) (runCall memory′ image 9 report)
+unfolding image memory memory′ program report runCall memoryValid imageValid goodImage flagGood pendingGood allZeros zerosGood timerGood
     countGood controlGood reportFits stateFrom conditionFrom reportOf imageOf wordBytes entryBytes runOf runFrom commit stepOf enterOf pushed flagWord
-    fieldsBad firstOf hasSecond usesRx eight inModes inRows modeBits opcodeOf row rows single accessOf alignedAccess byEntry byTlb lookupFrom lookupOf
-    needOf transferOf endOf interruptIn planFetch planFirst planOf planOperand planSecond
-entered = (refl, (refl, refl))
+    firstOf hasSecond operandOf eight inModes inRows modeBits opcodeOf row rows single costOf statesAt accessOf alignedAccess byEntry byTlb lookupFrom
+    lookupOf addressOf loadNeed needOf valueStored transferOf endOf interruptIn planFetch planFirst planOf planOperand planSecond
+    afterOperation bodyOf eventOf regIn spIn regsAfter sspAfter uspAfter stored
+entered =
+    record { report = refl; report′ = refl; counter = refl; counter′ = refl; table = refl; table′ = refl; handler = refl; handler′ = refl }

@@ -1,11 +1,11 @@
 -- What a turn tells of the machine: on every state whose pages the map gives, the instruction is the machine's.
 -- Assumes nothing.
 use mathlib.Core.List.{List}
-use mathlib.Core.Path.{refl, sym, _∙_, _≡_}
-use Prim.Native.Nat.{ℕ, _%_, _<_}
+use mathlib.Core.Path.{refl, _≡_}
+use Prim.Native.Nat.{ℕ, _<_}
 use native.Mathlib.Omega.{arith}
-use lib.ListN.{getD, length}
-use Rattle.decode.specs.Decode.{rdField, rxField, usesRx}
+use lib.ListN.{length}
+use Rattle.decode.specs.Decode.{rdField, rxField}
 use Rattle.machine.specs.Register.{regOf}
 use Rattle.machine.specs.declared.State.{State}
 use Rattle.mmu.specs.declared.Right.the-variants.{Execute}
@@ -14,39 +14,21 @@ use Rattle.pages.specs.Maps.{access-granted}
 use Rattle.word.specs.declared.Width.{Width}
 use Rattle.word.specs.declared.Width.the-variants.{Word}
 use Rattle.word.specs.Word.{plus}
-use Rattle.source.specs.Fields.{RegRead, modeOf}
+use Rattle.source.specs.Fields.{RxRead, modeOf}
 use Rattle.source.specs.Sources.{Named, Valued, by-frame, by-index, by-register, by-register-byte, by-second, field, held, loaded, second}
 use Rattle.hot.specs.Tells.{Acts, Added, Tells, Turned, sOf, zOf}
 use Rattle.hot.specs.Tells.{called, compare, compute, divide, done, idled, jumped, load, none, one, operated, passed, popped, pushed, returned, shift, stop, stored}
 use Rattle.hot.specs.declared.Hot.{Hot}
 use Rattle.source.specs.declared.operand.Source.{Source}
 use Rattle.refinement.specs.Statement.{MapOf, hotState, Does}
-use Rattle.refinement.specs.Hot.{reg-hot}
+use Rattle.refinement.specs.Hot.{reg-hot, rx-hot}
 use Rattle.refinement.specs.Operands as operands
 use Rattle.refinement.specs.Operands.{Addressed, Second, Sourced, memory-read}
-use Rattle.refinement.specs.Operations.{RxFine, rx-low, rx-unused}
 use Rattle.refinement.specs.Operations.{call-does, compare-does, divide-does, jump-does, load-does, next-does, no-does, pass-does, pop-does, push-does, ret-does, shift-does, store-does}
 use Rattle.refinement.specs.Opens.{opens-call, opens-jump, opens-store}
 use Rattle.refinement.specs.Results.{ByValue, difference-by-value, result-by-value}
-use Rattle.refinement.specs.Shorts.{frame-word, short-word}
 
 -- ---- operands
-
--- the last field is fine
-pub named-fine : {rs map m : List ℕ} {pc w mode a next : ℕ} {width : Width} → Named rs map m pc w mode a next width → RxFine mode w
-unfolding usesRx
-named-fine {w} (by-second n f) = rx-unused 0 w refl
-named-fine {w} (by-index n f p) = rx-low 1 w (p .low)
-named-fine {w} (by-frame n f) = rx-unused 3 w refl
-named-fine {w} (by-register n p) = rx-low 6 w (p .low)
-named-fine {w} (by-register-byte n p) = rx-low 7 w (p .low)
-
-pub valued-fine : {rs map m : List ℕ} {pc w mode x next : ℕ} → Valued rs map m pc w mode x next → RxFine mode w
-unfolding usesRx
-valued-fine (loaded a r) = named-fine a
-valued-fine {w} (second n f) = rx-unused 2 w refl
-valued-fine {w} (held n r) = rx-low 4 w (r .low)
-valued-fine {w} (field n f) = rx-unused 5 w refl
 
 module _ (b : State) {map : List ℕ} (maps : MapOf b map) (rs m : List ℕ) (h : Hot) (w : ℕ) where
   abbrev st : State
@@ -55,45 +37,42 @@ module _ (b : State) {map : List ℕ} (maps : MapOf b map) (rs m : List ℕ) (h 
   second-of : {x : ℕ} → Reads map m Execute Word (plus (h .pc) 2) x → Second st m x
   second-of r = record { at = r .at; grants = access-granted maps (r .placed); value = r .value }
 
-  in-register : (a n : ℕ) → RegRead rs n a → a ≡ regOf st n
-  in-register a n r = r .value ∙ sym (reg-hot b rs (h .pc) (h .v) (h .c) (sOf h) (zOf h) n (r .low))
+  in-register : (next a : ℕ) → RxRead rs next (rxField w) a → a ≡ regOf st next (rxField w)
+  in-register next = rx-hot b rs (h .pc) (h .v) (h .c) (sOf h) (zOf h) next (rxField w)
 
   addressed : {mode a next : ℕ} {width : Width} → Named rs map m (h .pc) w mode a next width → Addressed st m w mode a next width
   addressed {a} {next} (by-second n f) = operands.direct st m w a next (second-of f) n
   addressed {a} {next} (by-index {d} n f p) =
-      operands.indexed st m w d (getD rs (rxField w) 0) a next (second-of f)
-      (sym (reg-hot b rs (h .pc) (h .v) (h .c) (sOf h) (zOf h) (rxField w) (p .low))) (p .value) n
+      operands.indexed st m w d (p .index) a next (second-of f) (in-register next (p .index) (p .read)) (p .value) n
   addressed {a} {next} (by-frame n f) =
-      operands.framed st m w a next (rw (reg-hot b rs (h .pc) (h .v) (h .c) (sOf h) (zOf h) 12 (omega arith), ← frame-word (rxField w) (omega arith)) f) n
-  addressed {a} {next} (by-register n p) = operands.indirect st m w a next (in-register a (w % 16) p) n
-  addressed {a} {next} (by-register-byte n p) = operands.byte-indirect st m w a next (in-register a (w % 16) p) n
+      operands.framed st m w a next (rw (reg-hot b rs (h .pc) (h .v) (h .c) (sOf h) (zOf h) next 12 (omega arith)) f) n
+  addressed {a} {next} (by-register n p) = operands.indirect st m w a next (in-register next a p) n
+  addressed {a} {next} (by-register-byte n p) = operands.byte-indirect st m w a next (in-register next a p) n
 
   sourced : {mode x next : ℕ} → Valued rs map m (h .pc) w mode x next → Sourced st m w mode x next
   sourced {mode} {x} {next} (loaded {a} {width} p r) =
       memory-read st m w width mode a x next (r .at) (addressed p) (access-granted maps (r .placed)) (r .value)
   sourced {x} {next} (second n f) = operands.immediate st m w x next (second-of f) n
-  sourced {x} {next} (held n r) = operands.register st m w x next (in-register x (w % 16) r) n
-  sourced {x} {next} (field n f) = operands.short st m w x next (f ∙ short-word (rxField w) (omega arith)) n
+  sourced {x} {next} (held n r) = operands.register st m w x next (in-register next x r) n
+  sourced {x} {next} (field n f) = operands.short st m w x next f n
 
   -- ---- the target of a jump and of CALL
 
-  added-fine : {mode r : ℕ} → Added rs mode w r → RxFine mode w
-  unfolding usesRx
-  added-fine (none e z) = rw e (rx-unused 0 w refl)
-  added-fine {mode} (one n r) = rx-low mode w (r .low)
-
   module _ {mode : ℕ} (small : mode < 2) (d next : ℕ) (s : Second st m d) (n : next ≡ plus (h .pc) 4) where
-    at-target : {add : ℕ} → Added rs mode w add → d < 65536 → (a : ℕ) → a ≡ plus d add → Addressed st m w mode a next Word
+    at-next : {add : ℕ} → RxRead rs (plus (h .pc) 4) (rxField w) add → add ≡ regOf st next (rxField w)
+    at-next {add} r = rw n (in-register _ add r)
+
+    at-target : {add : ℕ} → Added rs mode (h .pc) w add → d < 65536 → (a : ℕ) → a ≡ plus d add → Addressed st m w mode a next Word
     at-target (none e z) l a q = let k : a ≡ d = omega arith in rw (e, k) (operands.direct st m w d next s n)
     at-target {add} (one f r) l a q =
         let e : mode ≡ 1 = omega (arith, f) in
-        rw e (operands.indexed st m w d add a next s (in-register add (w % 16) r) q n)
+        rw e (operands.indexed st m w d add a next s (at-next r) q n)
 
-    some-target : {add : ℕ} → Added rs mode w add → (a : ℕ) × Addressed st m w mode a next Word
+    some-target : {add : ℕ} → Added rs mode (h .pc) w add → (a : ℕ) × Addressed st m w mode a next Word
     some-target (none e z) = (d, rw e (operands.direct st m w d next s n))
     some-target {add} (one f r) =
         let e : mode ≡ 1 = omega (arith, f) in
-        (plus d add, rw e (operands.indexed st m w d add (plus d add) next s (in-register add (w % 16) r) refl n))
+        (plus d add, rw e (operands.indexed st m w d add (plus d add) next s (at-next r) refl n))
 
   -- ---- instructions
 
@@ -102,36 +81,36 @@ module _ (b : State) {map : List ℕ} (maps : MapOf b map) (rs m : List ℕ) (h 
         {x : Source} {rs′ : List ℕ} {r : Hot} → rdField w < 14 → Valued rs map m (h .pc) w (modeOf w) (x .value) (x .next) → Acts rs h w x rs′ r
         → Does b rs h m w rs′ (r .pc) (r .v) (r .c) (sOf r) (zOf r) m (r .cost)
     acted {x} low v (load e p q) =
-        rw (p, q) (load-does b rs size h m w low (modeOf w) (omega arith) (valued-fine v) (x .value) (x .next) (sourced v) (omega arith))
+        rw (p, q) (load-does b rs size h m w low (modeOf w) (omega arith) (x .value) (x .next) (sourced v) (omega arith))
     acted {x} low v (compare a e c p q) =
         let b′ : ByValue a = rw c (difference-by-value _ _) in
         rw (p, q, ← b′ .s, ← b′ .z)
-        (compare-does b rs size h m w low (modeOf w) (omega arith) (valued-fine v) (x .value) (x .next) (sourced v) (omega arith) a c)
+        (compare-does b rs size h m w low (modeOf w) (omega arith) (x .value) (x .next) (sourced v) (omega arith) a c)
     acted {x} low v (compute a c n e t p q) =
         let b′ : ByValue a = rw t (result-by-value _ _ _) in
         rw (p, q, ← b′ .s, ← b′ .z)
-        (next-does b rs size h m w low (modeOf w) (omega arith) (valued-fine v) (x .value) (x .next) (sourced v) a t n (omega arith) c)
+        (next-does b rs size h m w low (modeOf w) (omega arith) (x .value) (x .next) (sourced v) a t n (omega arith) c)
     acted {x} low v (divide a c n e z t p q) =
         let b′ : ByValue a = rw t (result-by-value _ _ _) in
         rw (p, q, ← b′ .s, ← b′ .z)
-        (divide-does b rs size h m w low (modeOf w) (omega arith) (valued-fine v) (x .value) (x .next) (sourced v) a t n (omega arith) c z)
+        (divide-does b rs size h m w low (modeOf w) (omega arith) (x .value) (x .next) (sourced v) a t n (omega arith) c z)
     acted {x} low v (shift a c n e t p q) =
         let b′ : ByValue a = rw t (result-by-value _ _ _) in
         rw (p, q, ← b′ .s, ← b′ .z)
-        (shift-does b rs size h m w low (modeOf w) (omega arith) (valued-fine v) (x .value) (x .next) (sourced v) a t n (omega arith) c)
+        (shift-does b rs size h m w low (modeOf w) (omega arith) (x .value) (x .next) (sourced v) a t n (omega arith) c)
 
     turned : {rs′ m′ : List ℕ} {r : Hot} → Turned map rs m h w rs′ m′ r → Does b rs h m w rs′ (r .pc) (r .v) (r .c) (sOf r) (zOf r) m′ (r .cost)
     turned (jumped {d} {a} code n t l q c p y z) =
         rw (p, y, z)
-        (jump-does b rs size h m w (omega arith) (added-fine (t .added)) (at-target (t .small) d _ (second-of (t .fetched)) refl (t .added) l a q)
+        (jump-does b rs size h m w (omega arith) (at-target (t .small) d _ (second-of (t .fetched)) refl (t .added) l a q)
         (opens-jump (modeOf w) (t .small)) n c)
     turned (passed {d} {next} code n t q c p y z) =
         rw (p, y, z)
-        (pass-does b rs size h m w (omega arith) (added-fine (t .added)) (some-target (t .small) d next (second-of (t .fetched)) q (t .added) .1)
+        (pass-does b rs size h m w (omega arith) (some-target (t .small) d next (second-of (t .fetched)) q (t .added) .1)
         (opens-jump (modeOf w) (t .small)) n c)
     turned (called {d} {a} {next} {sp} code t l q k e x p z) =
         rw (p, z, x .memory)
-        (call-does b rs size h m w (omega arith) (added-fine (t .added)) (at-target (t .small) d next (second-of (t .fetched)) k (t .added) l a q)
+        (call-does b rs size h m w (omega arith) (at-target (t .small) d next (second-of (t .fetched)) k (t .added) l a q)
         (opens-call (modeOf w) (t .small)) sp (x .at) e (access-granted maps (x .placed)))
     turned (idled {next} e n p y z) = rw (p, y, z) (no-does b rs size h m w next n e)
     turned (pushed {next} {sp} e low n q x p z) =
@@ -142,7 +121,7 @@ module _ (b : State) {map : List ℕ} (maps : MapOf b map) (rs m : List ℕ) (h 
         rw (p, y, z) (ret-does b rs size h m w _ refl e (f .at) sp x (access-granted maps (f .placed)) (f .value) q)
     turned (stored {width} code is s low a x p z) =
         rw (p, z, x .memory)
-        (store-does b rs size h m w low (omega arith) (named-fine a) (opens-store s) width (addressed a) (x .at) (access-granted maps (x .placed)))
+        (store-does b rs size h m w low (omega arith) (opens-store s) width (addressed a) (x .at) (access-granted maps (x .placed)))
     turned (operated low v a y) = rw y (acted low v a)
 
 -- ---- what a turn tells

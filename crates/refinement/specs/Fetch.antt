@@ -4,7 +4,7 @@ use mathlib.Core.Bool.{false, true}
 use mathlib.Core.List.{List}
 use mathlib.Core.Path.{_≡_}
 use Prim.Native.Nat.{ℕ}
-use Rattle.decode.specs.Decode.{fieldsBad, firstOf, hasSecond, operandOf, rdField, rxField, shapeOf}
+use Rattle.decode.specs.Decode.{firstOf, hasSecond, operandOf, rdBad, rdField, rxField, shapeOf}
 use Rattle.decode.specs.Instructions.{Row}
 use Rattle.decode.specs.Opcode.{costOf, known, opcodeOf}
 use Rattle.decode.specs.declared.Instruction.{Instruction}
@@ -44,8 +44,8 @@ readied st ins following source store =
     record {
       code = ins .code;
       rd = ins .rd;
-      held = regOf st (ins .rd);
-      address = addressOf (regOf st) (ins .operand);
+      held = regOf st following (ins .rd);
+      address = addressOf (regOf st following) (ins .operand);
       following = following;
       cost = ins .cost;
       source = source;
@@ -63,7 +63,7 @@ module _ (st : State) (m : List ℕ) where
 
   -- it is an instruction that anyone may use
   pub defined :
-      (r : Row) (mode w : ℕ) → opcodeOf (upper w) ≡ known r mode → fieldsBad (r .rd) mode (rdField w) (rxField w) ≡ false
+      (r : Row) (mode w : ℕ) → opcodeOf (upper w) ≡ known r mode → rdBad (r .rd) (rdField w) ≡ false
       → r .privilege ≡ Anyone → planFirst (firstOf w) st m ≡ planSecond st m (shapeOf r mode w)
   unfolding planFirst firstOf
   defined r mode w e fine p = rw (e, fine, p)
@@ -83,8 +83,9 @@ module _ (st : State) (m : List ℕ) where
   -- the data access is done
   pub accessed :
       (ins : Instruction) (following source : ℕ) (store : Store)
-      → transferOf (needOf (ins .access) (regOf st) (spOf st) (flagOf st) (addressOf (regOf st) (ins .operand)) (ins .operand)) (translates st) (st .tlb) m
-      (valueStored (ins .code) (regOf st (ins .rd)) following)
+      → transferOf
+      (needOf (ins .access) (regOf st following) (spOf st) (flagOf st) (addressOf (regOf st following) (ins .operand)) (ins .operand)) (translates st)
+      (st .tlb) m (valueStored (ins .code) (regOf st following (ins .rd)) following)
       ≡ record { transfer = Done source 0 store; tlb = st .tlb }
       → planOperand st m ins following ≡ planned (endOf (ins .flow) (readied st ins following source store) (st .pc) (taken st (ins .rd))) st
   unfolding planOperand

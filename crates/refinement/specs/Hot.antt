@@ -2,7 +2,7 @@
 -- Assumes nothing.
 use mathlib.Core.Bool.{Bool, false, true}
 use mathlib.Core.List.{List, [], _++_, _∷_}
-use mathlib.Core.Path.{ap, refl, sym, _≡_}
+use mathlib.Core.Path.{ap, refl, sym, _∙_, _≡_}
 use Prim.Native.Nat.{ℕ, _<_}
 use native.Mathlib.Omega.{arith}
 use lib.Dec.{ltb}
@@ -13,6 +13,7 @@ use Rattle.machine.specs.Register.{regIn, regOf, regsAfter, spIn, spOf, sspAfte
 use Rattle.machine.specs.State.{withRegs}
 use Rattle.machine.specs.Spelled.{spelled, whole}
 use Rattle.machine.specs.declared.State.{State}
+use Rattle.source.specs.Fields.{RxRead, counter, listed}
 use Rattle.refinement.specs.Statement.{hot}
 
 ssp-same : (p : Bool) (a b : ℕ) → sspWith p a (spIn p a b) ≡ a
@@ -56,13 +57,19 @@ module _ (b : State) (rs : List ℕ) (pc : ℕ) (v c s z : Bool) where
   pub sp-hot : spOf (hot b rs pc v c s z) ≡ getD rs 13 0
   sp-hot = sp-in (b .flags .p) (b .ssp) (b .usp) (getD rs 13 0)
 
-  reg-by : (n : ℕ) → n < 14 → (t : Bool) → ltb n 13 ≡ t → regOf (hot b rs pc v c s z) n ≡ getD rs n 0
-  unfolding regIn
-  reg-by n h true e = let l : n < 13 = ltb-true n 13 e in rw (e, getD-take)
-  reg-by n h false e = let q : n ≡ 13 = omega (arith, ltb-false n 13 e) in rw q sp-hot
+  module _ (next : ℕ) where
+    reg-by : (n : ℕ) → n < 14 → (t : Bool) → ltb n 13 ≡ t → regOf (hot b rs pc v c s z) next n ≡ getD rs n 0
+    unfolding regIn
+    reg-by n h true e = let l : n < 13 = ltb-true n 13 e in rw (e, getD-take)
+    reg-by n h false e = let q : n ≡ 13 = omega (arith, ltb-false n 13 e) in rw q sp-hot
 
-  pub reg-hot : (n : ℕ) → n < 14 → regOf (hot b rs pc v c s z) n ≡ getD rs n 0
-  reg-hot n h = reg-by n h _ refl
+    pub reg-hot : (n : ℕ) → n < 14 → regOf (hot b rs pc v c s z) next n ≡ getD rs n 0
+    reg-hot n h = reg-by n h _ refl
+
+    pub rx-hot : (n x : ℕ) → RxRead rs next n x → x ≡ regOf (hot b rs pc v c s z) next n
+    unfolding regIn
+    rx-hot n x (listed r) = r .value ∙ sym (reg-hot n (r .low))
+    rx-hot n x (counter e q) = rw e q
 
   module _ (size : length rs ≡ 16) where
     with-by : (n x : ℕ) → n < 14 → (t : Bool) → ltb n 13 ≡ t → withReg (hot b rs pc v c s z) n x ≡ hot b (set rs n x) pc v c s z

@@ -5,5 +5,4 @@ pub mod Opens
 pub mod Operands
 pub mod Operations
 pub mod Results
-pub mod Shorts
 pub mod Statement

@@ -37,7 +37,7 @@ Reached st m w mode x next = (r : Row) → planSecond st m (shapeOf r mode w) �
 pub record Addressed (st : State) (m : List ℕ) (w mode a next : ℕ) (width : Width) : Type 0 where
   pub operand : Operand
   pub reached : Reached st m w mode operand next
-  pub address : addressOf (regOf st) operand ≡ a
+  pub address : addressOf (regOf st next) operand ≡ a
   pub loads : (reg : ℕ → ℕ) (a : ℕ) → loadNeed reg a operand ≡ need.Read width a
   pub wide : widthOf operand ≡ width
 
@@ -47,7 +47,7 @@ pub record Sourced (st : State) (m : List ℕ) (w mode x next : ℕ) : Type 0 wh
   pub reached : Reached st m w mode operand next
   pub source :
       (value : ℕ)
-      → transferOf (loadNeed (regOf st) (addressOf (regOf st) operand) operand) (translates st) (st .tlb) m value
+      → transferOf (loadNeed (regOf st next) (addressOf (regOf st next) operand) operand) (translates st) (st .tlb) m value
       ≡ record { transfer = loaded x; tlb = st .tlb }
 
 module _ (st : State) (m : List ℕ) (w : ℕ) where
@@ -65,7 +65,7 @@ module _ (st : State) (m : List ℕ) (w : ℕ) where
       }
 
   pub indexed :
-      (d x a next : ℕ) → Second st m d → x ≡ regOf st (rxField w) → a ≡ plus d x → next ≡ plus (st .pc) 4
+      (d x a next : ℕ) → Second st m d → x ≡ regOf st next (rxField w) → a ≡ plus d x → next ≡ plus (st .pc) 4
       → Addressed st m w 1 a next Word
   unfolding hasSecond operandOf addressOf loadNeed
   indexed d x a next s e f n =
@@ -77,7 +77,7 @@ module _ (st : State) (m : List ℕ) (w : ℕ) where
         wide = refl;
       }
 
-  pub framed : (a next : ℕ) → a ≡ plus (regOf st 12) (word (signed4 (rxField w) *ℤ pos 2)) → next ≡ plus (st .pc) 2 → Addressed st m w 3 a next Word
+  pub framed : (a next : ℕ) → a ≡ plus (regOf st next 12) (word (signed4 (rxField w) *ℤ pos 2)) → next ≡ plus (st .pc) 2 → Addressed st m w 3 a next Word
   unfolding hasSecond operandOf addressOf loadNeed
   framed a next e n =
       record {
@@ -88,7 +88,7 @@ module _ (st : State) (m : List ℕ) (w : ℕ) where
         wide = refl;
       }
 
-  pub indirect : (a next : ℕ) → a ≡ regOf st (rxField w) → next ≡ plus (st .pc) 2 → Addressed st m w 6 a next Word
+  pub indirect : (a next : ℕ) → a ≡ regOf st next (rxField w) → next ≡ plus (st .pc) 2 → Addressed st m w 6 a next Word
   unfolding hasSecond operandOf addressOf loadNeed
   indirect a next e n =
       record {
@@ -99,7 +99,7 @@ module _ (st : State) (m : List ℕ) (w : ℕ) where
         wide = refl;
       }
 
-  pub byte-indirect : (a next : ℕ) → a ≡ regOf st (rxField w) → next ≡ plus (st .pc) 2 → Addressed st m w 7 a next Byte
+  pub byte-indirect : (a next : ℕ) → a ≡ regOf st next (rxField w) → next ≡ plus (st .pc) 2 → Addressed st m w 7 a next Byte
   unfolding hasSecond operandOf addressOf loadNeed
   byte-indirect a next e n =
       record {
@@ -121,7 +121,7 @@ module _ (st : State) (m : List ℕ) (w : ℕ) where
         source = λ value. refl;
       }
 
-  pub register : (x next : ℕ) → x ≡ regOf st (rxField w) → next ≡ plus (st .pc) 2 → Sourced st m w 4 x next
+  pub register : (x next : ℕ) → x ≡ regOf st next (rxField w) → next ≡ plus (st .pc) 2 → Sourced st m w 4 x next
   unfolding hasSecond operandOf loadNeed transferOf
   register x next e n =
       record {

@@ -1,15 +1,14 @@
 -- The operation stage: what an instruction does once its operand is known, on hot states.
 -- Assumes nothing.
-use mathlib.Core.Bool.{and-false, false, true, _&&_}
+use mathlib.Core.Bool.{false, true}
 use mathlib.Core.List.{List}
 use mathlib.Core.Path.{ap, refl, _∙_, _≡_}
 use Prim.Native.Nat.{ℕ, _*_, _+_, _<_}
 use native.Mathlib.Omega.{arith}
 use borrow.Author.Tests.{ne-eqb}
-use lib.Dec.{eqb}
 use lib.ListN.{getD, length, length-set, set}
 use Rattle.decode.specs.Code.{CALL, CMP, JUMP, LD, NO, POP, PUSH, RET, ST}
-use Rattle.decode.specs.Decode.{fieldsBad, firstOf, hasSecond, operandOf, rdField, rxField, usesRx}
+use Rattle.decode.specs.Decode.{firstOf, hasSecond, operandOf, rdBad, rdField}
 use Rattle.decode.specs.Instructions.{RdUse, addStates, condition, divStates, eight, register, row, rows, shiftStates, single, unused}
 use Rattle.decode.specs.Opcode.{costOf, inModes, inRows, modeBits, opcodeOf, statesAt}
 use Rattle.decode.specs.declared.DataAccess.{DataAccess}
@@ -59,7 +58,7 @@ use Rattle.hot.specs.declared.Hot.{Hot}
 -- the first word w leads with its operand to the instruction
 module _ (st : State) (m : List ℕ) (w : ℕ) {byte code mode cost : ℕ} {field : RdUse} {access : DataAccess} {flow : Flow} where
   pub enters :
-      Opens byte code mode field access flow cost → upper w ≡ byte → fieldsBad field mode (rdField w) (rxField w) ≡ false
+      Opens byte code mode field access flow cost → upper w ≡ byte → rdBad field (rdField w) ≡ false
       → (x : Operand) (next : ℕ) → Reached st m w mode x next
       → planFirst (firstOf w) st m
       ≡ planOperand st m (record { code = code; rd = rdField w; operand = x; cost = cost; access = access; flow = flow }) next
@@ -68,21 +67,11 @@ module _ (st : State) (m : List ℕ) (w : ℕ) {byte code mode cost : ℕ} {fiel
       ∙ reached (o .row)
       ∙ rw (o .states, o .number, o .accesses, o .flows)
 
--- the last field is fine in the mode
-abbrev pub RxFine : ℕ → ℕ → Type 0
-RxFine mode w = (eqb (rxField w) 15 && usesRx mode) ≡ false
+low-register : (n : ℕ) → n < 14 → rdBad register n ≡ false
+low-register n l = ne-eqb n 15 (λ q. omega arith)
 
-fields-register : (mode w : ℕ) → rdField w < 14 → RxFine mode w → fieldsBad register mode (rdField w) (rxField w) ≡ false
-unfolding fieldsBad
-fields-register mode w l e = rw (ne-eqb (rdField w) 15 (λ q. omega arith), e)
-
-fields-unused : (mode w : ℕ) → RxFine mode w → fieldsBad unused mode (rdField w) (rxField w) ≡ false
-unfolding fieldsBad
-fields-unused mode w e = rw e
-
-fields-condition : (mode w : ℕ) → (rdField w ≡ 13 → ⊥) → RxFine mode w → fieldsBad condition mode (rdField w) (rxField w) ≡ false
-unfolding fieldsBad
-fields-condition mode w n e = rw (undefined-thirteen (rdField w) (omega arith), ne-eqb (rdField w) 13 n, e)
+some-condition : (w : ℕ) → (rdField w ≡ 13 → ⊥) → rdBad condition (rdField w) ≡ false
+some-condition w n = rw (undefined-thirteen (rdField w) (omega arith), ne-eqb (rdField w) 13 n)
 
 -- an operation from ADD to SHRL but CMP
 module _ (st : State) (m : List ℕ) (rd held source port pc states : ℕ) where
@@ -120,12 +109,12 @@ module _ (b : State) (rs : List ℕ) (size : length rs ≡ 16) (h : Hot) (m : Li
   abbrev held : ℕ
   held = getD rs (rdField w) 0
 
-  reg : (n : ℕ) → n < 14 → regOf st n ≡ getD rs n 0
-  reg n l = reg-hot b rs (h .pc) (h .v) (h .c) (sOf h) (zOf h) n l
+  reg : (next n : ℕ) → n < 14 → regOf st next n ≡ getD rs n 0
+  reg = reg-hot b rs (h .pc) (h .v) (h .c) (sOf h) (zOf h)
 
   -- ---- with a source
 
-  module _ (low : rd < 14) (mode : ℕ) (below : mode < 8) (fine : RxFine mode w) (x next : ℕ) (s : Sourced st m w mode x next) where
+  module _ (low : rd < 14) (mode : ℕ) (below : mode < 8) (x next : ℕ) (s : Sourced st m w mode x next) where
     -- the instruction comes to its end with the source
     ends :
         {byte code cost : ℕ} {f : Flow} → Opens byte code mode register data-access.Source f cost → upper w ≡ byte
@@ -133,8 +122,8 @@ module _ (b : State) (rs : List ℕ) (size : length rs ≡ 16) (h : Hot) (m : Li
         ≡ planned (endOf f (record {
           code = code;
           rd = rd;
-          held = regOf st rd;
-          address = addressOf (regOf st) (s .operand);
+          held = regOf st next rd;
+          address = addressOf (regOf st next) (s .operand);
           following = next;
           cost = cost;
           source = x;
@@ -143,7 +132,7 @@ module _ (b : State) (rs : List ℕ) (size : length rs ≡ 16) (h : Hot) (m : Li
         }) (h .pc) (taken st rd)) st
     unfolding needOf
     ends o e =
-        enters st m w o e (fields-register mode w low fine) (s .operand) next (s .reached)
+        enters st m w o e (low-register rd low) (s .operand) next (s .reached)
         ∙ accessed st m _ next x store.Nothing (s .source _)
 
     pub load-does : upper w ≡ LD * 8 + mode → Does b rs h m w (set rs rd x) next (h .v) (h .c) (sOf h) (zOf h) m (loadCost mode)
@@ -156,15 +145,15 @@ module _ (b : State) (rs : List ℕ) (size : length rs ≡ 16) (h : Hot) (m : Li
         upper w ≡ CMP * 8 + mode → (r : Alu) → r ≡ subOf held x
         → Does b rs h m w rs next (r .v) (r .c) (r .s) (r .z) m (addCost mode + 0)
     unfolding endOf commit afterOperation bodyOf eventOf stored
-    compare-does e r q = rw (ends (opens-compute cmp mode below) e, reg rd low, ← q)
+    compare-does e r q = rw (ends (opens-compute cmp mode below) e, reg next rd low, ← q)
 
     module _ {code extra : ℕ} (r : Alu) (q : r ≡ aluOf code held x) (not-cmp : code ≡ CMP → ⊥) (e : upper w ≡ code * 8 + mode) where
       done : (port states : ℕ) {f : Flow} → Computes code f extra
-          → commit (Perform (op st m rd (regOf st rd) x port next states code)) st m
+          → commit (Perform (op st m rd (regOf st next rd) x port next states code)) st m
           ≡ did (hot b (set rs rd (r .value)) next (r .v) (r .c) (r .s) (r .z)) m states
       done port states c =
-          carries st m rd (regOf st rd) x port next states c not-cmp
-          ∙ rw (reg rd low, ← q) (ap (λ (y : State). did y m states) (with-hot b rs next (r .v) (r .c) (r .s) (r .z) size rd (r .value) low))
+          carries st m rd (regOf st next rd) x port next states c not-cmp
+          ∙ rw (reg next rd low, ← q) (ap (λ (y : State). did y m states) (with-hot b rs next (r .v) (r .c) (r .s) (r .z) size rd (r .value) low))
 
       pub next-does : Computes code flow.Next extra → Does b rs h m w (set rs rd (r .value)) next (r .v) (r .c) (r .s) (r .z) m (addCost mode + extra)
       unfolding endOf
@@ -182,26 +171,26 @@ module _ (b : State) (rs : List ℕ) (size : length rs ≡ 16) (h : Hot) (m : Li
 
   -- the instruction comes to its end, its data access done
   module _ {byte code mode cost : ℕ} {field : RdUse} {access : DataAccess} {f : Flow} (o : Opens byte code mode field access f cost) (e : upper w ≡ byte)
-      (fine : fieldsBad field mode (rdField w) (rxField w) ≡ false) (x : Operand) (next : ℕ) (reached : Reached st m w mode x next) where
+      (fine : rdBad field (rdField w) ≡ false) (x : Operand) (next : ℕ) (reached : Reached st m w mode x next) where
     abbrev ins : Instruction
     ins = record { code = code; rd = rd; operand = x; cost = cost; access = access; flow = f }
 
     finishes :
         (source : ℕ) (s : Store)
-        → transferOf (needOf access (regOf st) (spOf st) (flagOf st) (addressOf (regOf st) x) x) (translates st) (st .tlb) m (valueStored code (regOf st rd) next)
+        → transferOf (needOf access (regOf st next) (spOf st) (flagOf st) (addressOf (regOf st next) x) x) (translates st) (st .tlb) m (valueStored code (regOf st next rd) next)
         ≡ record { transfer = Done source 0 s; tlb = st .tlb }
         → planFirst (firstOf w) st m ≡ planned (endOf f (readied st ins next source s) (h .pc) (taken st rd)) st
     finishes source s t = enters st m w o e fine x next reached ∙ accessed st m ins next source s t
 
-  module _ {byte mode cost a next : ℕ} {width : Width} (e : upper w ≡ byte) (fine : RxFine mode w) (p : Addressed st m w mode a next width) where
+  module _ {byte mode cost a next : ℕ} {width : Width} (e : upper w ≡ byte) (p : Addressed st m w mode a next width) where
     module _ (o : Opens byte JUMP mode condition data-access.None flow.Jump cost) (n : rd ≡ 13 → ⊥) where
       pub jump-does : holds (conditionOf rd (h .v) (h .c) (sOf h) (zOf h)) ≡ true → Does b rs h m w rs a (h .v) (h .c) (sOf h) (zOf h) m (cost + 1)
       unfolding needOf transferOf endOf commit afterOperation bodyOf eventOf stored
-      jump-does t = rw (finishes o e (fields-condition mode w n fine) (p .operand) next (p .reached) 0 store.Nothing refl, t, p .address)
+      jump-does t = rw (finishes o e (some-condition w n) (p .operand) next (p .reached) 0 store.Nothing refl, t, p .address)
 
       pub pass-does : holds (conditionOf rd (h .v) (h .c) (sOf h) (zOf h)) ≡ false → Does b rs h m w rs next (h .v) (h .c) (sOf h) (zOf h) m cost
       unfolding needOf transferOf endOf commit afterOperation bodyOf eventOf stored
-      pass-does t = rw (finishes o e (fields-condition mode w n fine) (p .operand) next (p .reached) 0 store.Nothing refl, t)
+      pass-does t = rw (finishes o e (some-condition w n) (p .operand) next (p .reached) 0 store.Nothing refl, t)
 
     pub call-does :
         Opens byte CALL mode unused data-access.Push flow.Call cost → (sp at : ℕ) → sp ≡ minus (getD rs 13 0) 2 → Grants b Write sp at
@@ -209,7 +198,7 @@ module _ (b : State) (rs : List ℕ) (size : length rs ≡ 16) (h : Hot) (m : Li
     unfolding needOf valueStored transferOf endOf commit afterOperation bodyOf eventOf stored
     call-does o sp at q g =
         rw (
-          finishes o e (fields-unused mode w fine) (p .operand) next (p .reached) 0 (store.At Word at next)
+          finishes o e refl (p .operand) next (p .reached) 0 (store.At Word at next)
               (rw (sp-hot b rs (h .pc) (h .v) (h .c) (sOf h) (zOf h), ← q, g)),
           p .address,
           sp-hot b rs a (h .v) (h .c) (sOf h) (zOf h),
@@ -217,19 +206,15 @@ module _ (b : State) (rs : List ℕ) (size : length rs ≡ 16) (h : Hot) (m : Li
         )
         (ap (λ (y : State). did y (storeWord m at next) cost) (sp-with-hot b rs a (h .v) (h .c) (sOf h) (zOf h) size sp))
 
-  module _ {byte mode cost a next : ℕ} (low : rd < 14) (e : upper w ≡ byte) (fine : RxFine mode w) (o : Opens byte ST mode register data-access.Destination flow.Next cost) where
+  module _ {byte mode cost a next : ℕ} (low : rd < 14) (e : upper w ≡ byte) (o : Opens byte ST mode register data-access.Destination flow.Next cost) where
     pub store-does :
         (width : Width) → Addressed st m w mode a next width → (at : ℕ) → accessOf width (translates b) (b .tlb) Write a ≡ granted at (b .tlb)
         → Does b rs h m w rs next (h .v) (h .c) (sOf h) (zOf h) (writeAt width m at held) cost
     unfolding needOf valueStored transferOf endOf commit afterOperation bodyOf eventOf stored
     store-does width p at g =
-        rw (finishes o e (fields-register mode w low fine) (p .operand) next (p .reached) 0 (store.At width at held) (rw (p .wide, p .address, g, reg rd low)))
+        rw (finishes o e (low-register rd low) (p .operand) next (p .reached) 0 (store.At width at held) (rw (p .wide, p .address, g, reg next rd low)))
 
   -- ---- single bytes
-
-  single-fine : RxFine 8 w
-  unfolding usesRx
-  single-fine = and-false (eqb (rxField w) 15)
 
   module _ (next : ℕ) (n : next ≡ plus (h .pc) 2) where
     alone : Reached st m w 8 operand.Nothing next
@@ -239,7 +224,7 @@ module _ (b : State) (rs : List ℕ) (size : length rs ≡ 16) (h : Hot) (m : Li
     pub no-does : upper w ≡ NO * 8 → Does b rs h m w rs next (h .v) (h .c) (sOf h) (zOf h) m 3
     unfolding opcodeOf inRows inModes modeBits rows row eight single addStates divStates shiftStates costOf statesAt needOf transferOf endOf commit afterOperation bodyOf eventOf stored
     no-does e =
-        rw (finishes {code = NO} {cost = 3} {access = data-access.None} {f = flow.Next} (opens _ refl refl) e (fields-unused 8 w single-fine)
+        rw (finishes {code = NO} {cost = 3} {access = data-access.None} {f = flow.Next} (opens _ refl refl) e refl
         operand.Nothing next alone 0 store.Nothing refl)
 
     pub push-does :
@@ -248,8 +233,8 @@ module _ (b : State) (rs : List ℕ) (size : length rs ≡ 16) (h : Hot) (m : Li
     unfolding opcodeOf inRows inModes modeBits rows row eight single addStates divStates shiftStates costOf statesAt needOf valueStored transferOf endOf commit afterOperation bodyOf eventOf stored
     push-does e low sp at q g =
         rw (
-          finishes {code = PUSH} {cost = 5} {access = data-access.Push} {f = flow.Next} (opens _ refl refl) e (fields-register 8 w low single-fine)
-              operand.Nothing next alone 0 (store.At Word at held) (rw (sp-hot b rs (h .pc) (h .v) (h .c) (sOf h) (zOf h), ← q, g, reg rd low)),
+          finishes {code = PUSH} {cost = 5} {access = data-access.Push} {f = flow.Next} (opens _ refl refl) e (low-register rd low)
+              operand.Nothing next alone 0 (store.At Word at held) (rw (sp-hot b rs (h .pc) (h .v) (h .c) (sOf h) (zOf h), ← q, g, reg next rd low)),
           sp-hot b rs next (h .v)
               (h .c) (sOf h) (zOf h),
           ← q,
@@ -262,7 +247,7 @@ module _ (b : State) (rs : List ℕ) (size : length rs ≡ 16) (h : Hot) (m : Li
     unfolding opcodeOf inRows inModes modeBits rows row eight single addStates divStates shiftStates costOf statesAt needOf valueStored transferOf endOf commit afterOperation bodyOf eventOf stored
     pop-does e low at sp x g q k =
         rw (
-          finishes {code = POP} {cost = 6} {access = data-access.Pop} {f = flow.Next} (opens _ refl refl) e (fields-register 8 w low single-fine)
+          finishes {code = POP} {cost = 6} {access = data-access.Pop} {f = flow.Next} (opens _ refl refl) e (low-register rd low)
               operand.Nothing next alone x store.Nothing (rw (sp-hot b rs (h .pc) (h .v) (h .c) (sOf h) (zOf h), g, q)),
           sp-hot b rs next (h .v) (h .c) (sOf h) (zOf h),
           ← k,
@@ -276,15 +261,9 @@ module _ (b : State) (rs : List ℕ) (size : length rs ≡ 16) (h : Hot) (m : Li
     unfolding opcodeOf inRows inModes modeBits rows row eight single addStates divStates shiftStates costOf statesAt needOf valueStored transferOf endOf commit afterOperation bodyOf eventOf stored
     ret-does e at sp x g q k =
         rw (
-          finishes {code = RET} {cost = 6} {access = data-access.Pop} {f = flow.Return} (opens _ refl refl) e (fields-unused 8 w single-fine) operand.Nothing
+          finishes {code = RET} {cost = 6} {access = data-access.Pop} {f = flow.Return} (opens _ refl refl) e refl operand.Nothing
               next alone x store.Nothing (rw (sp-hot b rs (h .pc) (h .v) (h .c) (sOf h) (zOf h), g, q)),
           sp-hot b rs x (h .v) (h .c) (sOf h) (zOf h),
           ← k,
         )
         (ap (λ (y : State). did y m 6) (sp-with-hot b rs x (h .v) (h .c) (sOf h) (zOf h) size sp))
-
-pub rx-unused : (mode w : ℕ) → usesRx mode ≡ false → RxFine mode w
-rx-unused mode w e = rw e (and-false (eqb (rxField w) 15))
-
-pub rx-low : (mode w : ℕ) → rxField w < 14 → RxFine mode w
-rx-low mode w l = rw (ne-eqb (rxField w) 15 (λ q. omega arith))

@@ -99,9 +99,9 @@ sp-fits : (st : State) → Ranged st → Word (spOf st)
 unfolding spIn
 sp-fits st r = search (r, word-either)
 
-reg-fits : (st : State) → Ranged st → (k : ℕ) → Word (regOf st k)
+reg-fits : (st : State) → Ranged st → (following : ℕ) → Word following → (k : ℕ) → Word (regOf st following k)
 unfolding regIn spIn
-reg-fits st r k = search (r .words, r, word-either)
+reg-fits st r following f k = search (r .words, r, word-either)
 
 pub word-fits : (m : List ℕ) → Bytes m → (a : ℕ) → Word (wordAt m a)
 word-fits m b a = omega (arith, b a, b (plus a 1))
@@ -202,16 +202,17 @@ module _ (st : State) (r : Ranged st) where
   planned-fits (transfer.Fails why at) h ins held address following l a f = h
 
   by-operand :
-      (m : List ℕ) → Bytes m → (ins : Instruction) → OperandFits (regOf st) (ins .operand) → (following : ℕ) → Word following
+      (m : List ℕ) → Bytes m → (ins : Instruction) (following : ℕ) → Word following → OperandFits (regOf st following) (ins .operand)
       → PlanFits ((planOperand st m ins following) .plan)
   unfolding planOperand valueStored
-  by-operand m b ins o following f =
-      let regs : (k : ℕ) → Word (regOf st k) = reg-fits st r in
+  by-operand m b ins following f o =
+      let reg : ℕ → ℕ = regOf st following in
+      let regs : (k : ℕ) → Word (reg k) = reg-fits st r following f in
       let flag : Word (flagOf st) = omega (arith, flag-bits (st .flags) .0) in
-      let value : ℕ = valueStored (ins .code) (regOf st (ins .rd)) following in
-      let need : Need = needOf (ins .access) (regOf st) (spOf st) (flagOf st) (addressOf (regOf st) (ins .operand)) (ins .operand) in
+      let value : ℕ = valueStored (ins .code) (reg (ins .rd)) following in
+      let need : Need = needOf (ins .access) reg (spOf st) (flagOf st) (addressOf reg (ins .operand)) (ins .operand) in
       planned-fits ((transferOf need (translates st) (st .tlb) m value) .transfer)
-      (transfer-fits (translates st) m b need (need-fits (regOf st) regs (ins .access) _ _ (sp-fits st r) flag (ins .operand) o) (st .tlb) value
+      (transfer-fits (translates st) m b need (need-fits reg regs (ins .access) _ _ (sp-fits st r) flag (ins .operand) o) (st .tlb) value
       (word-either (eqb (ins .code) CALL) _ _ f (regs (ins .rd))))
       ins _ _ following (regs (ins .rd)) (o .address) f
 
@@ -225,7 +226,7 @@ plan-fits st m r b =
       second = λ s h why. wrap-fits _;
       undefined = λ s h. (omega arith, h .next);
       denied = λ s h. (omega arith, h .next);
-      short = λ s h w shape d e. by-operand s h m b _ (operand-fits _ (reg-fits s h) _ _ 0 (omega arith)) _ (wrap-fits _);
-      long = λ s h w shape d e at. by-operand s h m b _ (operand-fits _ (reg-fits s h) _ _ _ (word-fits m b at)) _ (wrap-fits _);
+      short = λ s h w shape d e. by-operand s h m b _ _ (wrap-fits _) (operand-fits _ (reg-fits s h _ (wrap-fits _)) _ _ 0 (omega arith));
+      long = λ s h w shape d e at. by-operand s h m b _ _ (wrap-fits _) (operand-fits _ (reg-fits s h _ (wrap-fits _)) _ _ _ (word-fits m b at));
     })
     st r

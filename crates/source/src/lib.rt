@@ -9,4 +9,5 @@ pub use operand::source_of;
 pub use registers::SP;
 pub use registers::USP;
 pub use registers::register;
+pub use registers::rx;
 pub use registers::wide;

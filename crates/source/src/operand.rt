@@ -6,7 +6,8 @@ ghost use Rattle.decode.specs.Decode.{rxField};
 ghost use Rattle.source.specs.Fields.{IndexedPlace, shortOf, framePlace};
 ghost use Rattle.source.specs.Sources.{SourceIs};
 use crate::registers::FP;
-use crate::registers::register;
+use crate::registers::rx;
+use decode::frame_offset;
 use pages::NONE;
 use pages::fetch;
 use pages::read;
@@ -26,22 +27,21 @@ pub struct Source {
 fn short(w: u16) -> u16
     ensures { λ r. ⌜ r ≡ shortOf (rxField w) ⌝ }
 {
-    to_word(sign_extend(w))
+    to_word(sign_extend(w % 16))
 }
 
 // FP plus twice D4.
 pub fn frame_place(regs: &[u16; 16], w: u16) -> u16
     ensures { λ r. ⌜ r ≡ framePlace (now (regs .entry)) w ⌝ }
 {
-    let d = short(w);
-    plus(regs[FP], plus(d, d))
+    plus(regs[FP], to_word(frame_offset(w % 16)))
 }
 
-// A displacement plus a register.
-pub fn indexed_place(regs: &[u16; 16], d: u32, w: u16) -> u32
-    ensures { λ r. ⌜ (r < 65536 → IndexedPlace (now (regs .entry)) d w r) ⌝ }
+// A displacement plus Rx, `next` being the address of the following instruction.
+pub fn indexed_place(regs: &[u16; 16], next: u16, d: u32, w: u16) -> u32
+    ensures { λ r. ⌜ (r < 65536 → IndexedPlace (now (regs .entry)) next d w r) ⌝ }
 {
-    let x = register(regs, w);
+    let x = rx(regs, next, w);
     if NONE <= d {
         return NONE;
     }
@@ -72,7 +72,7 @@ pub fn source_of(regs: &[u16; 16], map: &[u16; 256], mem: &[u8], pc: u16, w: u16
             7,
         ),
         1 => {
-            let a = indexed_place(regs, fetch(map, mem, after), w);
+            let a = indexed_place(regs, beyond, fetch(map, mem, after), w);
             operand(read(map, mem, Width::Word, a), beyond, 7)
         }
         2 => operand(fetch(map, mem, after), beyond, 5),
@@ -81,9 +81,9 @@ pub fn source_of(regs: &[u16; 16], map: &[u16; 256], mem: &[u8], pc: u16, w: u16
             after,
             7,
         ),
-        4 => operand(register(regs, w), after, 5),
+        4 => operand(rx(regs, after, w), after, 5),
         5 => operand(short(w) as u32, after, 4),
-        6 => operand(read(map, mem, Width::Word, register(regs, w)), after, 6),
-        _ => operand(read(map, mem, Width::Byte, register(regs, w)), after, 6),
+        6 => operand(read(map, mem, Width::Word, rx(regs, after, w)), after, 6),
+        _ => operand(read(map, mem, Width::Byte, rx(regs, after, w)), after, 6),
     }
 }

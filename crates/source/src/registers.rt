@@ -1,15 +1,17 @@
 // The registers.
 ghost use mathlib.Core.Path.{_≡_};
 ghost use Prim.Native.Nat.{_%_, _<_};
-ghost use Rattle.source.specs.Fields.{RegRead};
+ghost use Rattle.source.specs.Fields.{RegRead, RxRead};
 use pages::NONE;
 
-// The places of FP and of SP among the registers. USP is no place here.
+// The places of FP and of SP among the registers. USP and PC are no places here.
 pub const FP: usize = decode::register::FP as usize;
 
 pub const SP: usize = decode::register::SP as usize;
 
 pub const USP: usize = decode::register::USP as usize;
+
+const PC: u16 = decode::register::PC as u16;
 
 pub fn wide(x: u16) -> u32
     ensures { λ r. ⌜ r ≡ x ⌝ }
@@ -26,4 +28,14 @@ pub fn register(regs: &[u16; 16], n: u16) -> u32
         return NONE;
     }
     wide(regs[k])
+}
+
+// Rs or Rx, by the lowest four bits of `w`: a register below 14, or with 15 the address of the following instruction.
+pub fn rx(regs: &[u16; 16], next: u16, w: u16) -> u32
+    ensures { λ r. ⌜ (r < 65536 → RxRead (now (regs .entry)) next (w % 16) r) ⌝ }
+{
+    if w % 16 == PC {
+        return wide(next);
+    }
+    register(regs, w)
 }

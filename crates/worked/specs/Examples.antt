@@ -4,7 +4,7 @@ use mathlib.Core.List.{List, [], map, _∷_, _++_}
 use mathlib.Core.Path.{refl, _≡_}
 use Prim.Native.Nat.{ℕ}
 use lib.Count.{trailingZeros}
-use Rattle.decode.specs.Decode.{fieldsBad, firstOf, hasSecond, operandOf, usesRx}
+use Rattle.decode.specs.Decode.{firstOf, hasSecond, operandOf}
 use Rattle.decode.specs.Instructions.{addStates, divStates, eight, row, rows, shiftStates, single}
 use Rattle.decode.specs.Opcode.{Opcode, costOf, inModes, inRows, known, modeBits, opcodeOf, statesAt, unknown}
 use Rattle.image.specs.Decode.{conditionFrom}
@@ -31,17 +31,18 @@ use Rattle.jump.specs.Jump.{conditionOf, conditionUndefined}
 use Rattle.timer.specs.Port.{afterInAt, afterOutAt, valueAt}
 use Rattle.word.specs.Signed.{signed4}
 use Rattle.worked.specs.Fields.{valueOf, valuesOf}
+use Rattle.worked.specs.Following.{following}
 use Rattle.worked.specs.Further.{entries, misreadings, pages, results}
 use Rattle.worked.specs.Rows.{Row, expected, memoryOf, starred, stateOf, stepped, vectorsFrom}
 use Rattle.worked.specs.Timers.{timers}
 
 abbrev pub all : List Row
-all = starred ++ misreadings ++ results ++ pages ++ entries ++ timers
+all = starred ++ misreadings ++ results ++ pages ++ entries ++ timers ++ following
 
 pub examples : map stepped all ≡ map expected all
-unfolding starred misreadings results pages entries timers memoryOf stateOf conditionFrom valueOf valuesOf vectorsFrom
+unfolding starred misreadings results pages entries timers following memoryOf stateOf conditionFrom valueOf valuesOf vectorsFrom
     addOf addsOf andOf divOf modOf mulOf orOf shlOf shraOf shrlOf subOf xorOf conditionOf conditionUndefined signed4
-    fieldsBad firstOf hasSecond operandOf usesRx addStates costOf divStates eight inModes inRows modeBits opcodeOf row rows shiftStates single statesAt
+    firstOf hasSecond operandOf addStates costOf divStates eight inModes inRows modeBits opcodeOf row rows shiftStates single statesAt
     enterOf pushed afterOperation aluOf bodyOf eventOf flagWord stored accessOf alignedAccess byEntry byTlb lookupFrom lookupOf transferOf
     addressOf loadNeed needOf valueStored endOf interruptIn planFetch planFirst planOf planOperand planSecond trailingZeros
     mmuAfter outputAfter portElsewhere recordAfterIn tlbAfter tlbPort afterInAt afterOutAt valueAt

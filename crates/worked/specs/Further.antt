@@ -104,7 +104,7 @@ entries =
     -- the vector is read after the pushes: a stack over the vectors gives the pushed PC
     ∷ row (SSP ≔ 0 ∷ kernel) (0x10 ≔ 0xf000 ∷ [])
     (SSP ≔ 0xfffc ∷ PC ≔ 0x12 ∷ []) (0xfffe ≔ 0x12 ∷ 0xfffc ≔ 0x4f ∷ []) (Entered 15 0x12 0x4f)
-    -- "undefined (14), privilege (13)" in this order: IN in user mode, with a register field of 15
+    -- "undefined (14), privilege (13)" in this order: IN in user mode, with 15 as Rd
     ∷ row user (0x10 ≔ 0xb0f0 ∷ [])
     (SSP ≔ 0xfc ∷ PC ≔ 0x20e0 ∷ FLAG ≔ 0x4f ∷ []) (0xfe ≔ 0x10 ∷ 0xfc ≔ 0x0f ∷ []) (Entered 14 0x10 0x0f)
     -- "zero divisor (12)": DIV G0,G1

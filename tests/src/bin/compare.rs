@@ -1,9 +1,10 @@
 //! Sets libtac.a beside the emulator of this package, byte for byte.
 //!
-//! compare [--factor N] [--seed N] [--part words|runs|cards|timers|looks|pairs|scenarios] [--scenario NAME] [--verbose 1]
+//! compare [--factor N] [--seed N] [--part PART] [--scenario NAME] [--verbose 1]
 //! compare --replay FILE
 //!
-//! The parts run side by side. With `--verbose 1` each case is named before it is tried, for a crash. `--replay` does the case again that a text
+//! PART is words, runs, cards, timers, following, looks, pairs or scenarios; without it all parts run, side by side.
+//! With `--verbose 1` each case is named before it is tried, for a crash. `--replay` does the case again that a text
 //! holds; where something differs, the smallest case found is printed as such a text.
 
 use std::process::exit;
@@ -18,10 +19,11 @@ use tac_tests::isolation::{self, After, Pair};
 use tac_tests::looks::{self, Looks, Seen};
 use tac_tests::met::Met;
 use tac_tests::program::Ground;
+use tac_tests::reach::Reached;
 use tac_tests::replay::{parse, Replay};
 use tac_tests::report::{ENDING, NUMBER, REPORT};
 use tac_tests::rng::Rng;
-use tac_tests::scenarios::SCENARIOS;
+use tac_tests::scenarios::{REGISTER_15, SCENARIOS};
 use tac_tests::{image, met, sample};
 
 /// Held by the part that prints a difference and then ends the program.
@@ -33,18 +35,22 @@ const ROUNDS: u64 = 2;
 const RUNS: u64 = 300_000;
 const CARDS: u64 = 150_000;
 const TIMES: u64 = 40_000;
+const FOLLOWING: u64 = 40_000;
 const LOOKS: u64 = 15_000;
 const PAIRS: u64 = 60_000;
+/// One of so many pairs is watched.
+const WATCHED: u64 = 20;
 /// Cases of each scenario.
 const EACH: u64 = 8_000;
 
 /// A part's name, and what does it and gives its text.
 type Part = (&'static str, fn(&Arguments) -> String);
-const PARTS: [Part; 7] = [
+const PARTS: [Part; 8] = [
     ("words", words),
     ("runs", runs),
     ("cards", cards),
     ("timers", timers),
+    ("following", following),
     ("looks", looks),
     ("pairs", pairs),
     ("scenarios", scenarios),
@@ -60,7 +66,8 @@ struct Arguments {
 }
 
 const USAGE: &str =
-    "usage: compare [--factor N] [--seed N] [--part words|runs|cards|timers|looks|pairs|scenarios] [--verbose 1]
+    "usage: compare [--factor N] [--seed N] [--part words|runs|cards|timers|following|looks|pairs|scenarios]
+               [--verbose 1]
        compare [--factor N] [--seed N] --scenario NAME
        compare --replay FILE";
 
@@ -259,7 +266,7 @@ fn words(args: &Arguments) -> String {
                 word_state(&mut rng, &mut machine, &ground, &pages, bits);
                 let place = [0, 2].map(|d| instruction_place(&machine, &ground, d));
                 let kept = place.map(|at| [case.memory[at], case.memory[at + 1]]);
-                let second = sample::value(&mut rng, &pages);
+                let second = second_word(&mut rng, &machine, &pages, first);
                 case.memory[place[1]..place[1] + 2].copy_from_slice(&second.to_be_bytes());
                 case.memory[place[0]..place[0] + 2].copy_from_slice(&first.to_be_bytes());
                 case.image.clear();
@@ -287,6 +294,19 @@ fn word_state(rng: &mut Rng, machine: &mut Machine, ground: &Ground, pages: &[u8
     machine.missed = rng.byte();
     machine.input = rng.byte();
     machine.timers = sample::timers(rng);
+}
+
+/// A second word. In mode 1, half of the time, it leads to one of the pages by the register that the first word names.
+fn second_word(rng: &mut Rng, machine: &Machine, pages: &[u8], first: u16) -> u16 {
+    let value = sample::value(rng, pages);
+    if first >> 8 & 7 != 1 || rng.chance(50) {
+        return value;
+    }
+    let index = match first & 15 {
+        15 => machine.pc.wrapping_add(4),
+        number => machine.reg(number as usize),
+    };
+    value.wrapping_sub(index)
 }
 
 /// Where the word at PC + d lies, for the program's own page.
@@ -327,12 +347,28 @@ fn cards(args: &Arguments) -> String {
 fn timers(args: &Arguments) -> String {
     let (start, mut count, mut maker) = (Instant::now(), Count::default(), Maker::new());
     random(args, "timers", 46, TIMES, &mut count, &mut |rng, case| maker.time_case(rng, case));
-    let lacking = count.met.lacking();
+    happened("timers", &count.met.lacking());
+    count.text("timers", start) + &count.met.text()
+}
+
+/// Ends the program if something has never happened.
+fn happened(part: &str, lacking: &[String]) {
     if !lacking.is_empty() {
-        println!("timers: this never happened: {}", lacking.join("; "));
+        println!("{part}: this never happened: {}", lacking.join("; "));
         exit(1);
     }
-    count.text("timers", start) + &count.met.text()
+}
+
+/// Register 15. Each use of it has to be met in kernel and user mode, by the first step of a run and by a later one
+/// that leaves the TLB as it is.
+fn following(args: &Arguments) -> String {
+    let (start, mut count, mut reached) = (Instant::now(), Count::default(), Reached::default());
+    random(args, "following", 47, FOLLOWING, &mut count, &mut |rng, case| {
+        REGISTER_15.case(rng, case);
+        reached.case(case);
+    });
+    happened("following", &reached.lacking());
+    count.text("following", start) + &reached.text()
 }
 
 /// Each scenario in turn.
@@ -384,6 +420,7 @@ fn pairs(args: &Arguments) -> String {
     let (mut maker, mut pair) = (Maker::new(), Pair::empty());
     let (mut a, mut b) = (After::empty(), After::empty());
     let [mut handlers, mut overwrote, mut stored] = [0u64; 3];
+    let mut reached = Reached::default();
     for index in 0..PAIRS * args.factor {
         let mut rng = Rng::of_case(args.seed, 40, index);
         maker.pair(&mut rng, &mut pair);
@@ -391,6 +428,9 @@ fn pairs(args: &Arguments) -> String {
             eprintln!("pairs, case {index}");
         }
         assert!(isolation::asked(&pair) && pair.first != pair.second);
+        if index % WATCHED == 0 {
+            reached.pair(&pair);
+        }
         match isolation::check(ffi::run, &pair, &mut a, &mut b) {
             Ok(seen) => {
                 count.cases += 1;
@@ -404,10 +444,11 @@ fn pairs(args: &Arguments) -> String {
             }),
         }
     }
+    happened("pairs", &reached.lacking_for_users());
     let found = format!(
         "  pairs with different handlers {handlers}, with secrets overwritten {overwrote}, with stores {stored}\n"
     );
-    count.text("pairs", start) + &found
+    count.text("pairs", start) + &found + &reached.text()
 }
 
 /// Does the case of a text again; true if nothing differs.

@@ -47,13 +47,16 @@ mul-row c = search needs
 element-copy-out-row : tie.Need-element-copy-out-row
 element-copy-out-row c = search needs
 
-uses-rx-requires : tie.Need-uses-rx-requires
-uses-rx-requires c κs = search needs
-
 returns-2 : tie.Need-returns-2
 returns-2 c =
-    let s = c .before .before .before .before .before in
-    sym (by-entry s ∙ entry-bad (entry s) (row s) (word s) (ne-eqb _ _ (c .before .before .before .if1 .left)) (rw (← c .before .uses-rx .ensures) (c .if2 .taken)))
+    let s = c .before .before .before .before in
+    sym (by-entry s ∙ entry-bad (entry s) (row s) (word s) (ne-eqb _ _ (c .before .before .if1 .left)) (c .if2 .taken))
+
+cast-t20 : tie.Need-cast-t20
+cast-t20 c = search needs
+
+cast-t21 : tie.Need-cast-t21
+cast-t21 c = search needs
 
 cast-t22 : tie.Need-cast-t22
 cast-t22 c = search needs
@@ -61,14 +64,8 @@ cast-t22 c = search needs
 cast-t23 : tie.Need-cast-t23
 cast-t23 c = search needs
 
-cast-t24 : tie.Need-cast-t24
-cast-t24 c = search needs
-
-cast-t25 : tie.Need-cast-t25
-cast-t25 c = search needs
-
-cast-t27 : tie.Need-cast-t27
-cast-t27 c = search needs
+cast-t26 : tie.Need-cast-t26
+cast-t26 c = search needs
 
 privilege-from-requires : tie.Need-privilege-from-requires
 privilege-from-requires c κs = search needs
@@ -83,11 +80,9 @@ returns-3 : tie.Need-returns-3
 unfolding hasSecond
 returns-3 c =
     let d = c .before .before .before in
-    let s = d .before .before .before .before .before in
+    let s = d .before .before .before .before in
     rw (c .before .before .privilege-from .ensures, c .before .access-from .ensures, c .flow-from .ensures)
-    (sym
-    (by-entry s
-    ∙ entry-good (entry s) (row s) (word s) (ne-eqb _ _ (d .before .before .before .if1 .left)) (rw (← d .before .uses-rx .ensures) (d .if2 .left))))
+    (sym (by-entry s ∙ entry-good (entry s) (row s) (word s) (ne-eqb _ _ (d .before .before .if1 .left)) (d .if2 .left)))
 
 pub first-word-spec : {M : Type 1} → statement M
 first-word-spec =
@@ -101,13 +96,12 @@ first-word-spec =
     add-number
     mul-row
     element-copy-out-row
-    uses-rx-requires
     returns-2
+    cast-t20
+    cast-t21
     cast-t22
     cast-t23
-    cast-t24
-    cast-t25
-    cast-t27
+    cast-t26
     privilege-from-requires
     access-from-requires
     flow-from-requires

@@ -24,14 +24,14 @@ store-at-requires c κs = search needs
 plus-requires-3 : tie.Need-plus-requires-3
 plus-requires-3 c κs = search needs
 
+plus-requires-4 : tie.Need-plus-requires-4
+plus-requires-4 c κs = search needs
+
 fetch-requires-2 : tie.Need-fetch-requires-2
 fetch-requires-2 c κs = search needs
 
 indexed-place-requires : tie.Need-indexed-place-requires
 indexed-place-requires c κs = search needs
-
-plus-requires-4 : tie.Need-plus-requires-4
-plus-requires-4 c κs = search needs
 
 store-at-requires-2 : tie.Need-store-at-requires-2
 store-at-requires-2 c κs = search needs
@@ -48,20 +48,20 @@ plus-requires-5 c κs = search needs
 store-at-requires-3 : tie.Need-store-at-requires-3
 store-at-requires-3 c κs = search needs
 
-register-requires : tie.Need-register-requires
-register-requires c κs = search needs
-
 plus-requires-6 : tie.Need-plus-requires-6
 plus-requires-6 c κs = search needs
+
+rx-requires : tie.Need-rx-requires
+rx-requires c κs = search needs
 
 store-at-requires-4 : tie.Need-store-at-requires-4
 store-at-requires-4 c κs = search needs
 
-register-requires-2 : tie.Need-register-requires-2
-register-requires-2 c κs = search needs
-
 plus-requires-7 : tie.Need-plus-requires-7
 plus-requires-7 c κs = search needs
+
+rx-requires-2 : tie.Need-rx-requires-2
+rx-requires-2 c κs = search needs
 
 store-at-requires-5 : tie.Need-store-at-requires-5
 store-at-requires-5 c κs = search needs
@@ -89,12 +89,12 @@ returns-2 : tie.Need-returns-2
 returns-2 c =
     let a = c .before .before .before .before .before .before .before .before .before .before .before .args in
     let pre′ = c .before .before .before .before .before .before .before .before .before .before .before .pre in
-    let fetch2′ = c .before .before .before .before .before .before .fetch2 in
-    let indexedplace′ = c .before .before .before .before .before .indexed-place in
+    let fetch2′ = c .before .before .before .before .before .fetch2 in
+    let indexedplace′ = c .before .before .before .before .indexed-place in
     store-tells (a .map .now) (a .regs .now) (pre′ .0) (a .mem .now) (a .self) (a .w) (pre′ .3) 1
     (c .before .before .before .before .before .before .before .before .before .match .keys2) indexed (omega arith) (omega arith)
-    (indexed-named (a .regs .now) (a .map .now) (a .mem .now) (a .self .pc) (a .w) _ (c .before .before .before .plus4 .ensures) (fetch2′ .result)
-    (rw (c .before .before .before .before .before .before .before .plus3 .ensures) at (fetch2′ .ensures)) (indexedplace′ .result) (indexedplace′ .ensures))
+    (indexed-named (a .regs .now) (a .map .now) (a .mem .now) (a .self .pc) (a .w) _ (c .before .before .before .before .before .before .before .before .plus3 .ensures) (fetch2′ .result)
+    (rw (c .before .before .before .before .before .before .plus4 .ensures) at (fetch2′ .ensures)) (indexedplace′ .result) (indexedplace′ .ensures))
     (c .before .before .store-at2 .ensures)
 
 same-length-3 : tie.Need-same-length-3
@@ -117,11 +117,11 @@ returns-4 : tie.Need-returns-4
 returns-4 c =
     let a = c .before .before .before .before .before .before .before .before .args in
     let pre′ = c .before .before .before .before .before .before .before .before .pre in
-    let register′ = c .before .before .before .before .before .register in
+    let rx′ = c .before .before .before .before .rx in
     store-tells (a .map .now) (a .regs .now) (pre′ .0) (a .mem .now) (a .self) (a .w) (pre′ .3) 6
     (c .before .before .before .before .before .before .match .keys4) indirect (omega arith) (omega arith)
-    (indirect-named (a .regs .now) (a .map .now) (a .mem .now) (a .self .pc) (a .w) _ (c .before .before .before .plus6 .ensures) (register′ .result)
-    (register′ .ensures)) (c .before .before .store-at4 .ensures)
+    (indirect-named (a .regs .now) (a .map .now) (a .mem .now) (a .self .pc) (a .w) _ (c .before .before .before .before .before .plus6 .ensures) (rx′ .result)
+    (rx′ .ensures)) (c .before .before .store-at4 .ensures)
 
 same-length-5 : tie.Need-same-length-5
 same-length-5 c = search needs
@@ -130,11 +130,11 @@ returns-5 : tie.Need-returns-5
 returns-5 c =
     let a = c .before .before .before .before .before .before .before .before .args in
     let pre′ = c .before .before .before .before .before .before .before .before .pre in
-    let register2′ = c .before .before .before .before .before .register2 in
+    let rx2′ = c .before .before .before .before .rx2 in
     store-tells (a .map .now) (a .regs .now) (pre′ .0) (a .mem .now) (a .self) (a .w) (pre′ .3) 7
     (c .before .before .before .before .before .before .match .keys5) byte-indirect (omega arith) (omega arith)
-    (byte-named (a .regs .now) (a .map .now) (a .mem .now) (a .self .pc) (a .w) _ (c .before .before .before .plus7 .ensures) (register2′ .result)
-    (register2′ .ensures)) (c .before .before .store-at5 .ensures)
+    (byte-named (a .regs .now) (a .map .now) (a .mem .now) (a .self .pc) (a .w) _ (c .before .before .before .before .before .plus7 .ensures) (rx2′ .result)
+    (rx2′ .ensures)) (c .before .before .store-at5 .ensures)
 
 returns-6 : tie.Need-returns-6
 returns-6 c = stop (c .stop .ensures) refl refl
@@ -148,19 +148,19 @@ store-spec =
     plus-requires-2
     store-at-requires
     plus-requires-3
+    plus-requires-4
     fetch-requires-2
     indexed-place-requires
-    plus-requires-4
     store-at-requires-2
     frame-place-requires
     wide-requires
     plus-requires-5
     store-at-requires-3
-    register-requires
     plus-requires-6
+    rx-requires
     store-at-requires-4
-    register-requires-2
     plus-requires-7
+    rx-requires-2
     store-at-requires-5
     stop-requires
     same-length

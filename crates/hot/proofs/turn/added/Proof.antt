@@ -9,11 +9,14 @@ use Rattle.hot.proofs.turn.added.Tie as tie
 returns : tie.Need-returns
 returns c = λ l. none (c .if1 .taken) refl
 
-register-requires : tie.Need-register-requires
-register-requires c κs = search needs
+plus-requires : tie.Need-plus-requires
+plus-requires c κs = search needs
+
+rx-requires : tie.Need-rx-requires
+rx-requires c κs = search needs
 
 returns-2 : tie.Need-returns-2
-returns-2 c = λ l. one (c .before .if1 .left) (c .register .ensures l)
+returns-2 c = λ l. one (c .before .before .if1 .left) (rw (c .before .plus .ensures) at (c .rx .ensures l))
 
 pub added-spec : {M : Type 1} → statement M
-added-spec = tie.close (tie.spec returns register-requires returns-2)
+added-spec = tie.close (tie.spec returns plus-requires rx-requires returns-2)

@@ -52,8 +52,8 @@ read-requires-3 c κs = search needs
 operand-requires-4 : tie.Need-operand-requires-4
 operand-requires-4 c κs = search needs
 
-register-requires : tie.Need-register-requires
-register-requires c κs = search needs
+rx-requires : tie.Need-rx-requires
+rx-requires c κs = search needs
 
 operand-requires-5 : tie.Need-operand-requires-5
 operand-requires-5 c κs = search needs
@@ -67,8 +67,8 @@ cast-operand c = search needs
 operand-requires-6 : tie.Need-operand-requires-6
 operand-requires-6 c κs = search needs
 
-register-requires-2 : tie.Need-register-requires-2
-register-requires-2 c κs = search needs
+rx-requires-2 : tie.Need-rx-requires-2
+rx-requires-2 c κs = search needs
 
 read-requires-4 : tie.Need-read-requires-4
 read-requires-4 c κs = search needs
@@ -76,8 +76,8 @@ read-requires-4 c κs = search needs
 operand-requires-7 : tie.Need-operand-requires-7
 operand-requires-7 c κs = search needs
 
-register-requires-3 : tie.Need-register-requires-3
-register-requires-3 c κs = search needs
+rx-requires-3 : tie.Need-rx-requires-3
+rx-requires-3 c κs = search needs
 
 read-requires-5 : tie.Need-read-requires-5
 read-requires-5 c κs = search needs
@@ -120,7 +120,7 @@ returns-5 : tie.Need-returns-5
 returns-5 c =
     let a = c .before .before .before .before .before .before .args in
     rw (c .operand5 .ensures) (register-source (a .regs .now) (a .map .now) (a .mem .now) (a .pc) (a .w) _ _
-    (c .before .before .before .before .plus .ensures) (c .before .before .match .keys5) (c .before .register .ensures))
+    (c .before .before .before .before .plus .ensures) (c .before .before .match .keys5) (c .before .rx .ensures))
 
 returns-6 : tie.Need-returns-6
 returns-6 c =
@@ -132,8 +132,8 @@ returns-7 : tie.Need-returns-7
 returns-7 c =
     let a = c .before .before .before .before .before .before .before .args in
     rw (c .operand7 .ensures) (indirect-source (a .regs .now) (a .map .now) (a .mem .now) (a .pc) (a .w) _ _
-    (c .before .before .before .before .before .plus .ensures) (c .before .before .before .match .keys7) (c .before .before .register2 .result)
-    (c .before .before .register2 .ensures) (c .before .read4 .ensures))
+    (c .before .before .before .before .before .plus .ensures) (c .before .before .before .match .keys7) (c .before .before .rx2 .result)
+    (c .before .before .rx2 .ensures) (c .before .read4 .ensures))
 
 returns-8 : tie.Need-returns-8
 returns-8 c =
@@ -142,7 +142,7 @@ returns-8 c =
     rw (c .operand8 .ensures) (byte-source (a .regs .now) (a .map .now) (a .mem .now) (a .pc) (a .w) _ _
     (c .before .before .before .before .before .plus .ensures) (last-mode _ (omega arith) (match′ .rest .0 .0 .0 .0 .0 .0 .1)
     (match′ .rest .0 .0 .0 .0 .0 .1) (match′ .rest .0 .0 .0 .0 .1) (match′ .rest .0 .0 .0 .1) (match′ .rest .0 .0 .1) (match′ .rest .0 .1)
-    (match′ .rest .1)) (c .before .before .register3 .result) (c .before .before .register3 .ensures) (c .before .read5 .ensures))
+    (match′ .rest .1)) (c .before .before .rx3 .result) (c .before .before .rx3 .ensures) (c .before .read5 .ensures))
 
 pub source-of-spec : {M : Type 1} → statement M
 source-of-spec =
@@ -163,15 +163,15 @@ source-of-spec =
     cast-read
     read-requires-3
     operand-requires-4
-    register-requires
+    rx-requires
     operand-requires-5
     short-requires
     cast-operand
     operand-requires-6
-    register-requires-2
+    rx-requires-2
     read-requires-4
     operand-requires-7
-    register-requires-3
+    rx-requires-3
     read-requires-5
     operand-requires-8
     returns
