@@ -287,8 +287,8 @@ fn same(at: u16, first: u8, rd: u16, dsp: u16) {
     for (a, mut b) in by_pc.into_iter().zip(by_g1) {
         let own = place(&a.before, at);
         b.after.memory[own + 1] |= 0x0F;
-        if let Ending::Entered(_) = a.report.ending {
-            // At FFFCh the instruction is a vector as well.
+        if at == 0xFFFC && matches!(a.report.ending, Ending::Entered(_)) {
+            // The instruction is a vector as well.
             b.after.pc = a.after.pc;
         }
         assert_eq!(a.report, b.report, "{first:02X} {rd} at {at:04X}");
@@ -296,21 +296,16 @@ fn same(at: u16, first: u8, rd: u16, dsp: u16) {
     }
 }
 
-/// "As Rs or Rx": every instruction and mode that has one, with any Rd and condition.
+/// "As Rs or Rx": every instruction and mode that has one, with every condition, and with Rd 0, 1 and 12 to 15.
 #[test]
 fn pc_as_another_register() {
     let firsts: Vec<u8> = (0..=255).filter(|first| uses_rx(*first)).collect();
     assert_eq!(firsts.len(), 15 * 4 + 3 + 2 + 2);
     for first in firsts {
+        let rds = if first == 0xA1 { (0..16).collect() } else { vec![0, 1, 12, 13, 14, 15] };
         for at in [0x0100, 0xFFFC, 0xFFFE] {
             // Mode 1 leads to data.
-            let dsp = DATA.wrapping_sub(at);
-            for rd in if first == 0xA1 { 0..16 } else { 0..1 } {
-                same(at, first, rd, dsp);
-            }
-            for rd in [1, 12, 13, 14, 15] {
-                same(at, first, rd, dsp);
-            }
+            rds.iter().for_each(|rd| same(at, first, *rd, DATA.wrapping_sub(at)));
         }
     }
 }
@@ -541,7 +536,8 @@ fn kept(run: RunCall, pair: &mut Pair, most: u16) -> Seen {
 }
 
 /// What `compare` tries holds here, and comes to every use of register 15, in each way, by a run's first step and by
-/// later ones that leave the TLB as it is; runs come to those that need no port and no end of memory.
+/// later ones that leave the TLB as it is; random runs come, as users' later steps, to those that need no port, no end of
+/// memory and no fault.
 #[test]
 fn pc_random_uses() {
     let scenario = reached(19, 12_000, |rng, case| REGISTER_15.case(rng, case));

@@ -12,7 +12,7 @@ use crate::register;
 use crate::table::NUMBERS;
 use crate::table::Table;
 
-// A register that is none as Rd.
+// Register 15, undefined as Rd.
 const PC: u16 = register::PC as u16;
 
 // A jump's condition that is undefined.

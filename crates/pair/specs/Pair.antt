@@ -1,6 +1,6 @@
 -- A worked pair of calls: a user program that finds its table by the PC and enters the kernel, on two memories that hold different handlers'
 -- addresses. `pair`: the premises of `isolated-calls` are met, so what it says holds of the two calls, for every allowance. `entered`: with an
--- allowance of 9 they leave the same registers, and the two handlers' addresses in PC.
+-- allowance of 9 they leave equal reports, the following address in G0, the table's word in G1, and the two handlers' addresses in PC.
 -- Assumes nothing.
 use mathlib.Core.Bool.{Bool, false, true, true≢false, _&&_}
 use mathlib.Core.List.{List, [], _∷_}

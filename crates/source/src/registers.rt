@@ -30,7 +30,7 @@ pub fn register(regs: &[u16; 16], n: u16) -> u32
     wide(regs[k])
 }
 
-// Rs or Rx, by the lowest four bits of `w`: a register below 14, or with 15 the address of the following instruction.
+// Rs or Rx, by the lowest four bits of `w`: a register below 14, with 15 the address of the following instruction, with 14 none.
 pub fn rx(regs: &[u16; 16], next: u16, w: u16) -> u32
     ensures { λ r. ⌜ (r < 65536 → RxRead (now (regs .entry)) next (w % 16) r) ⌝ }
 {

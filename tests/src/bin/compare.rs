@@ -296,7 +296,8 @@ fn word_state(rng: &mut Rng, machine: &mut Machine, ground: &Ground, pages: &[u8
     machine.timers = sample::timers(rng);
 }
 
-/// A second word. In mode 1, half of the time, it leads to one of the pages by the register that the first word names.
+/// A second word. In mode 1, half of the time, it leads by the register that the first word names to where it would have
+/// led alone: to one of the pages, mostly.
 fn second_word(rng: &mut Rng, machine: &Machine, pages: &[u8], first: u16) -> u16 {
     let value = sample::value(rng, pages);
     if first >> 8 & 7 != 1 || rng.chance(50) {
@@ -359,8 +360,8 @@ fn happened(part: &str, lacking: &[String]) {
     }
 }
 
-/// Register 15. Each use of it has to be met in kernel and user mode, by the first step of a run and by a later one
-/// that leaves the TLB as it is.
+/// Register 15. Each use of it has to be met in the kernel, by a user and by a user without the MMU, by the first step
+/// of a run and by a later one that leaves the TLB as it is.
 fn following(args: &Arguments) -> String {
     let (start, mut count, mut reached) = (Instant::now(), Count::default(), Reached::default());
     random(args, "following", 47, FOLLOWING, &mut count, &mut |rng, case| {
