@@ -45,10 +45,6 @@ pub fn put(m: &mut Machine, address: usize, words: &[u16]) {
     put_words(&mut m.memory, address, words);
 }
 
-pub fn get(m: &Machine, address: usize) -> u16 {
-    m.get(address)
-}
-
 /// A call on this machine, with a report of 12 bytes.
 pub fn case_of(m: &Machine, call: Call) -> Case {
     Case { memory: m.memory.clone(), image: image::write(m).to_vec(), report: vec![0xEE; REPORT], call }
@@ -104,7 +100,7 @@ pub fn check_entry(before: &Machine, after: &Machine, number: u8, saved_pc: u16)
     expected.ssp = before.ssp.wrapping_sub(4);
     put(&mut expected, before.ssp.wrapping_sub(2) as usize, &[saved_pc]);
     put(&mut expected, before.ssp.wrapping_sub(4) as usize, &[before.flag]);
-    expected.pc = get(&expected, 0xFFE0 + 2 * number as usize);
+    expected.pc = expected.get(0xFFE0 + 2 * number as usize);
     expected.flag = before.flag & !0x80 | 0x40;
     expected.violation = after.violation;
     expected.cause = after.cause;

@@ -263,7 +263,7 @@ fn four_bit_displacements() {
             for (mut m, place) in four_bit(0x1300 | rd << 4 | field) {
                 let stored = register(&m, rd);
                 assert_eq!(states_behind(&mut m), 6);
-                assert_eq!(get(&m, at(place)), stored, "field {field}");
+                assert_eq!(m.get(at(place)), stored, "field {field}");
             }
         }
     }

@@ -114,7 +114,7 @@ fn misreading_saved_flag() {
     let report = one(&mut m);
     assert_eq!(report.ending, Ending::Entered(13));
     assert_eq!((report.flag, report.pc), (E | C, 0x1200));
-    assert_eq!((get(&m, 0x0FFC), get(&m, 0x0FFE)), (E | C, 0x1200));
+    assert_eq!((m.get(0x0FFC), m.get(0x0FFE)), (E | C, 0x1200));
     assert_eq!(m.flag, P | C);
 }
 

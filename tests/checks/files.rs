@@ -68,6 +68,9 @@ fn stored_is_varied() {
     ["spent", "halted", "lost"].iter().for_each(|ending| begins(format!("{ending} - ")));
 }
 
+/// Rd 15: the kernel's first step; a user's second.
+const PC_AS_RD: &str = "runs 2\nentered 14 1 12 0100 0040\nentered 14 2 15 1202 0000\n";
+
 /// Listings that were worked out by hand from documents 01 and 02.
 const BY_HAND: &[(&str, &str)] = &[
     ("the worked card", "runs 2\nentered 15 4 21 0008 0040\nhalted - 1 5 0002 0040\n"),
@@ -163,12 +166,17 @@ const BY_HAND: &[(&str, &str)] = &[
     ),
     ("10: a read by [Dsp+PC]", "runs 2\nentered 10 2 15 1202 0000\nspent - 2 12 007E 0040\n"),
     ("13: IN by [PC] of a user", "runs 1\nentered 13 1 12 1200 0000\n"),
-    // The kernel's first step; the user's second.
-    ("14: ST PC,[PC]", "runs 2\nentered 14 1 12 0100 0040\nentered 14 2 15 1202 0000\n"),
-    ("14: ADD PC,G0", "runs 2\nentered 14 1 12 0100 0040\nentered 14 2 15 1202 0000\n"),
-    ("14: CMP PC,G0", "runs 2\nentered 14 1 12 0100 0040\nentered 14 2 15 1202 0000\n"),
-    ("14: OUT PC,[18h]", "runs 2\nentered 14 1 12 0100 0040\nentered 14 2 15 1202 0000\n"),
-    ("14: PUSH PC", "runs 2\nentered 14 1 12 0100 0040\nentered 14 2 15 1202 0000\n"),
+    ("14: LD PC,PC", PC_AS_RD),
+    ("14: ST PC,[1310h]", PC_AS_RD),
+    ("14: ST PC,[PC]", PC_AS_RD),
+    ("14: LD PC,FLAG", PC_AS_RD),
+    ("14: ADD PC,G0", PC_AS_RD),
+    ("14: CMP PC,G0", PC_AS_RD),
+    ("14: SHRL PC,1", PC_AS_RD),
+    ("14: IN PC,[18h]", PC_AS_RD),
+    ("14: OUT PC,[18h]", PC_AS_RD),
+    ("14: PUSH PC", PC_AS_RD),
+    ("14: POP PC", PC_AS_RD),
     // LD and SVC, entry 1 with R; ST and SVC, entry 1 with R and D.
     (
         "R-bit and D as accesses leave them",

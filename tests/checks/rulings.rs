@@ -42,10 +42,10 @@ fn ruling_2_rights() {
     m.usp = 0x1502;
     m.regs[0] = 0x7788;
     states(&mut m);
-    assert_eq!((get(&m, 0x3700), m.tlb[3]), (0x7788, 0x15_9A37));
+    assert_eq!((m.get(0x3700), m.tlb[3]), (0x7788, 0x15_9A37));
     put(&mut m, 0x3700, &[0]);
     states(&mut m);
-    assert_eq!((get(&m, 0x3700), m.usp), (0x7788, 0x1500));
+    assert_eq!((m.get(0x3700), m.usp), (0x7788, 0x1500));
     // POP there has no read right.
     let mut m = user(&[0xC400]);
     m.usp = 0x1500;
@@ -252,13 +252,13 @@ fn ruling_9_entry() {
     let report = one(&mut m);
     assert_eq!((report.pc, report.flag), (0x1202, I | V));
     // FLAG went to FFFEh, over the vector of 15.
-    assert_eq!((get(&m, 0), get(&m, 0xFFFE), m.pc, m.ssp), (0x1202, I | V, I | V, 0xFFFE));
+    assert_eq!((m.get(0), m.get(0xFFFE), m.pc, m.ssp), (0x1202, I | V, I | V, 0xFFFE));
     assert_eq!(m.flag, P | I | V);
     // PC over the vector.
     let mut m = user(&[0xF000]);
     m.ssp = 0;
     one(&mut m);
-    assert_eq!((get(&m, 0xFFFE), m.pc, m.ssp), (0x1202, 0x1202, 0xFFFC));
+    assert_eq!((m.get(0xFFFE), m.pc, m.ssp), (0x1202, 0x1202, 0xFFFC));
 }
 
 /// 10: what a lost machine keeps.
@@ -332,7 +332,7 @@ fn ruling_12_stack_pointers() {
     for rd in [13, 14] {
         let mut m = user(&[0xC000 | rd << 4, 0xC400 | rd << 4]);
         states(&mut m);
-        assert_eq!((get(&m, 0x357E), m.usp), (0x1380, 0x137E));
+        assert_eq!((m.get(0x357E), m.usp), (0x1380, 0x137E));
         put(&mut m, 0x357E, &[0x2468]);
         states(&mut m);
         assert_eq!(m.usp, 0x2468);
@@ -340,14 +340,14 @@ fn ruling_12_stack_pointers() {
     // P=1: 13 is SSP, 14 is USP on SSP's stack.
     let mut m = kernel(&[0xC0D0, 0xC4D0]);
     states(&mut m);
-    assert_eq!((get(&m, 0x0FFE), m.ssp), (0x1000, 0x0FFE));
+    assert_eq!((m.get(0x0FFE), m.ssp), (0x1000, 0x0FFE));
     put(&mut m, 0x0FFE, &[0x3330]);
     states(&mut m);
     assert_eq!(m.ssp, 0x3330);
     let mut m = kernel(&[0xC0E0, 0xC4E0]);
     m.usp = 0x7776;
     states(&mut m);
-    assert_eq!((get(&m, 0x0FFE), m.ssp, m.usp), (0x7776, 0x0FFE, 0x7776));
+    assert_eq!((m.get(0x0FFE), m.ssp, m.usp), (0x7776, 0x0FFE, 0x7776));
     put(&mut m, 0x0FFE, &[0x3331]);
     states(&mut m);
     assert_eq!((m.ssp, m.usp), (0x1000, 0x3331));
@@ -358,7 +358,7 @@ fn ruling_12_stack_pointers() {
 fn addresses_before_the_instruction() {
     let mut m = kernel(&[0xA90D, 0x0010]);
     states(&mut m);
-    assert_eq!((m.pc, m.ssp, get(&m, 0x0FFE)), (0x1010, 0x0FFE, 0x0104));
+    assert_eq!((m.pc, m.ssp, m.get(0x0FFE)), (0x1010, 0x0FFE, 0x0104));
     let mut m = kernel(&[0x0E00]);
     m.regs[0] = 0x2000;
     put(&mut m, 0x2000, &[0x5678]);

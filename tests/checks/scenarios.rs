@@ -130,7 +130,7 @@ fn entries_changed() {
     m.flag = I;
     m.regs[0] = 0x1234;
     ends(&mut m, Ending::Entered(15), 7);
-    assert_eq!((get(&m, 0x3500), get(&m, 0x4000), m.regs[2], m.tlb[1]), (0x1234, 0x1234, 0x1234, 0x13_9E40));
+    assert_eq!((m.get(0x3500), m.get(0x4000), m.regs[2], m.tlb[1]), (0x1234, 0x1234, 0x1234, 0x13_9E40));
     // Not valid, another page, no right: the next access faults.
     for (port, value, number) in [(0x86, 0x0635, 10), (0x84, 0x0077, 10), (0x86, 0x9C35, 11)] {
         let mut m = program(&[st(0, Pointer(1)), ld(6, Value(value)), output(6, At(port)), st(0, Pointer(1))]);
@@ -207,7 +207,7 @@ fn reti_and_lines() {
     put(&mut m, 0x1000, &[I | C, 0x1200]);
     put(&mut m, 0x3400, &[ld_flag(0), push(0), svc()].concat());
     ends(&mut m, Ending::Entered(15), 5);
-    assert_eq!((m.regs[0], get(&m, 0x357E), m.usp, m.pending), (I | C, I | C, 0x137E, 0x0208));
+    assert_eq!((m.regs[0], m.get(0x357E), m.usp, m.pending), (I | C, I | C, 0x137E, 0x0208));
 }
 
 /// Kernel mode at 0100h, and user mode with page 12h in frame 34h for all rights and page 13h for the same frame.
@@ -247,7 +247,7 @@ fn stores_into_code() {
         m.regs[4] = base;
         spent(&mut m, 6);
         let place = if k == 0 { 0x0104 } else { 0x3404 };
-        assert_eq!((get(&m, place), get(&m, place + 0x40)), (own + 0x40, own + 0x40));
+        assert_eq!((m.get(place), m.get(place + 0x40)), (own + 0x40, own + 0x40));
     }
     // A byte: LD G2, #1 becomes LD G3, #1 by its lower half, ADD by its upper.
     for (offset, byte, g2, g3) in [(5, 0x31, 0, 1), (4, 0x1D, 8, 0)] {
@@ -316,7 +316,7 @@ fn pc_at_the_top() {
         let mut m = start(call(At(0))[0]);
         spent(&mut m, 2);
         let pushed = if flag == P { 0x0FFE } else { 0x357E };
-        assert_eq!((m.pc, get(&m, pushed)), (0x0D11, 0x0002));
+        assert_eq!((m.pc, m.get(pushed)), (0x0D11, 0x0002));
     }
     // Page 00h is missing: the saved PC is 0000h after one word, FFFEh in the middle of two.
     for (word, steps, pc) in [(0x0000, 2, 0x0000), (0x0A00, 1, 0xFFFE)] {
@@ -338,7 +338,7 @@ fn a_page_twice() {
     m.tlb[5] = 0x13_8240;
     let report = ends(&mut m, Ending::Entered(11), 5);
     assert_eq!((report.pc, m.tlb[1], m.tlb[5]), (0x120A, 0x13_0000, 0x13_9A40));
-    assert_eq!((get(&m, 0x3500), get(&m, 0x4000)), (0x1234, 0x1234));
+    assert_eq!((m.get(0x3500), m.get(0x4000)), (0x1234, 0x1234));
 }
 
 #[test]
@@ -349,11 +349,11 @@ fn stacks_at_an_end() {
     m.usp = 0x0000;
     m.tlb[4] = 0xFF_8640;
     ends(&mut m, Ending::Entered(15), 4);
-    assert_eq!((get(&m, 0x40FE), m.regs[1], m.usp, m.tlb[4]), (7, 7, 0x0000, 0xFF_9E40));
+    assert_eq!((m.get(0x40FE), m.regs[1], m.usp, m.tlb[4]), (7, 7, 0x0000, 0xFF_9E40));
     let mut m = kernel(&[ld(0, Short(7)), push(0), pop(1)].concat());
     m.ssp = 0x0000;
     spent(&mut m, 3);
-    assert_eq!((get(&m, 0xFFFE), m.regs[1], m.ssp), (7, 7, 0x0000));
+    assert_eq!((m.get(0xFFFE), m.regs[1], m.ssp), (7, 7, 0x0000));
     // The page below is missing, or can't be written; an odd SP is tested before.
     for (sp, entry, number, missed, violation) in
         [(0x1300, 0, 10, 0x12, 0), (0x1500, 0x14_8436, 11, 0, 0x14FE), (0x1301, 0, 11, 0, 0x12FF)]
@@ -370,7 +370,7 @@ fn stacks_at_an_end() {
     let mut m = user(&code.concat());
     m.usp = 0x1400;
     let report = ends(&mut m, Ending::Entered(15), 3);
-    assert_eq!((report.pc, m.usp, get(&m, 0x35FE)), (0x1206, 0x1400, 0x1204));
+    assert_eq!((report.pc, m.usp, m.get(0x35FE)), (0x1206, 0x1400, 0x1204));
 }
 
 #[test]
@@ -380,11 +380,11 @@ fn registers_13_and_14() {
     let mut m = user(&code.concat());
     put(&mut m, 0x353A, &[0x2468]);
     ends(&mut m, Ending::Entered(15), 6);
-    assert_eq!((m.regs[0], m.usp, get(&m, 0x353E), m.ssp), (0x133A, 0x2468, 0x1340, 0x0FFC));
+    assert_eq!((m.regs[0], m.usp, m.get(0x353E), m.ssp), (0x133A, 0x2468, 0x1340, 0x0FFC));
     let mut m = kernel(&code[..5].concat());
     put(&mut m, 0x0FFA, &[0x2468]);
     spent(&mut m, 5);
-    assert_eq!((m.regs[0], m.usp, m.ssp, get(&m, 0x0FFE)), (0x1340, 0x2468, 0x0FFC, 0x1340));
+    assert_eq!((m.regs[0], m.usp, m.ssp, m.get(0x0FFE)), (0x1340, 0x2468, 0x0FFC, 0x1340));
 }
 
 #[test]
@@ -401,7 +401,7 @@ fn register_15() {
     put(&mut m, 0x3500, &[0x0007]);
     assert_eq!(spent(&mut m, 500), 100 * (4 + 7 + 7 + 6 + 5));
     assert_eq!(m.regs[1..4], [0x1202, 7, 700]);
-    assert_eq!((get(&m, 0x350E), m.pc, m.tlb[1]), (700, 0x1200, 0x13_9E35));
+    assert_eq!((m.get(0x350E), m.pc, m.tlb[1]), (700, 0x1200, 0x13_9E35));
     // As Rd it ends the run.
     let mut m = user(&[no(), ld(0, Register(PC)), add(PC, Register(0))].concat());
     assert_eq!(ends(&mut m, Ending::Entered(14), 3).pc, 0x1204);

@@ -23,8 +23,8 @@ rdField w = w / 16 % 16
 abbrev pub rxField : ℕ → ℕ
 rxField w = w % 16
 
--- "A used register field of 15 is undefined (H)." "Dh is undefined", of a jump's conditions. "Unused fields aren't looked at (H)." Document 02,
--- 4/14: register 15 is defined as Rs or Rx; "As Rd, in PUSH and in POP it remains undefined."
+-- "Dh is undefined", of a jump's conditions. "Unused fields aren't looked at (H)." Of "A used register field of 15 is undefined (H)" document 02,
+-- 4/14, leaves Rd: "As Rd, in PUSH and in POP it remains undefined."
 abbrev pub rdBad : RdUse → ℕ → Bool
 rdBad register n = eqb n 15
 rdBad condition n = conditionUndefined n
@@ -58,7 +58,8 @@ unfoldable pub firstOf : ℕ → First
 firstOf w = firstIn (opcodeOf (upper w)) w
 
 -- "0 direct [Dsp], 1 indexed [Dsp+Rx], 2 immediate, 3 [FP + 2 × D4], 4 register, 5 four-bit immediate, 6 [Rx], 7 byte at [Rx]".
--- Mode 3 holds the D4 doubled.
+-- Mode 3 holds the D4 doubled. The last field is a register's in modes 1, 4, 6 and 7, whatever its number (document 02, 4/14), and data in 3
+-- and 5; elsewhere it is not looked at.
 unfoldable pub operandOf : ℕ → ℕ → ℕ → Operand
 operandOf mode rx second =
     cond (eqb mode 0) (Direct second)

@@ -60,11 +60,12 @@ impl Hot {
         requires { ⌜ (length (now regs) ≡ 16) × (x .cost ≡ addCost (modeOf w)) ⌝ }
         ensures { λ r. ⌜ def.Operates (now (regs .entry)) self w x (now (regs .exit)) r ⌝ }
     {
-        let d = (w / 16 % 16) as usize;
-        if USP <= d {
+        // The operand before Rd: the compiled loop is faster so.
+        if NONE <= x.value {
             return self.stop();
         }
-        if NONE <= x.value {
+        let d = (w / 16 % 16) as usize;
+        if USP <= d {
             return self.stop();
         }
         let a = regs[d];

@@ -89,7 +89,7 @@ planOperand st m ins following =
     let t : Transferred = transferOf need (translates st) (st .tlb) m (valueStored (ins .code) held following) in
     planned (planTransfer (t .transfer) st ins held address following) (withTlb st (t .tlb))
 
--- "second word": an instruction without one goes on at once. The following address is PC + 2, or "counting the second word" (02, 4/14) PC + 4.
+-- "second word": an instruction without one goes on at once. The following address is PC + 2, or "counting the second word" (document 02, 4/14) PC + 4.
 unfoldable pub planSecond : State → List ℕ → Shape → Planned
 planSecond st m shape =
     cond (shape .second)

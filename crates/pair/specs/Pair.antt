@@ -161,8 +161,8 @@ pub record Ends (call call′ : Call) : Type 0 where
   pub report : call .report ≡ 1 ∷ 15 ∷ 0 ∷ 3 ∷ 0 ∷ 0 ∷ 0 ∷ 23 ∷ 0x12 ∷ 0x08 ∷ 0 ∷ 0 ∷ []
   pub report′ : call′ .report ≡ call .report
   -- G0 has the following address, G1 the table's word
-  pub counter : wordFrom (call .image) regsAt ≡ 0x1202
-  pub counter′ : wordFrom (call′ .image) regsAt ≡ 0x1202
+  pub following : wordFrom (call .image) regsAt ≡ 0x1202
+  pub following′ : wordFrom (call′ .image) regsAt ≡ 0x1202
   pub table : wordFrom (call .image) (regsAt + 2) ≡ 0x1234
   pub table′ : wordFrom (call′ .image) (regsAt + 2) ≡ 0x1234
   -- PC is the handler's address, another in each memory
@@ -176,4 +176,4 @@ unfolding image memory memory′ program report runCall memoryValid imageValid g
     lookupOf addressOf loadNeed needOf valueStored transferOf endOf interruptIn planFetch planFirst planOf planOperand planSecond
     afterOperation bodyOf eventOf regIn spIn regsAfter sspAfter uspAfter stored
 entered =
-    record { report = refl; report′ = refl; counter = refl; counter′ = refl; table = refl; table′ = refl; handler = refl; handler′ = refl }
+    record { report = refl; report′ = refl; following = refl; following′ = refl; table = refl; table′ = refl; handler = refl; handler′ = refl }

@@ -13,7 +13,7 @@ use Rattle.machine.specs.Register.{regIn, regOf, regsAfter, spIn, spOf, sspAfte
 use Rattle.machine.specs.State.{withRegs}
 use Rattle.machine.specs.Spelled.{spelled, whole}
 use Rattle.machine.specs.declared.State.{State}
-use Rattle.source.specs.Fields.{RxRead, counter, listed}
+use Rattle.source.specs.Fields.{RxRead, following, listed}
 use Rattle.refinement.specs.Statement.{hot}
 
 ssp-same : (p : Bool) (a b : ℕ) → sspWith p a (spIn p a b) ≡ a
@@ -69,7 +69,7 @@ module _ (b : State) (rs : List ℕ) (pc : ℕ) (v c s z : Bool) where
     pub rx-hot : (n x : ℕ) → RxRead rs next n x → x ≡ regOf (hot b rs pc v c s z) next n
     unfolding regIn
     rx-hot n x (listed r) = r .value ∙ sym (reg-hot n (r .low))
-    rx-hot n x (counter e q) = rw e q
+    rx-hot n x (following e q) = rw e q
 
   module _ (size : length rs ≡ 16) where
     with-by : (n x : ℕ) → n < 14 → (t : Bool) → ltb n 13 ≡ t → withReg (hot b rs pc v c s z) n x ≡ hot b (set rs n x) pc v c s z

@@ -21,7 +21,7 @@ pub record RegRead (rs : List ℕ) (n x : ℕ) : Type 0 where
 -- Rs or Rx: a register below 14, or number 15, the address `next` of the following instruction
 pub data RxRead (rs : List ℕ) (next n x : ℕ) : Type 0 where
   listed : RegRead rs n x → RxRead rs next n x
-  counter : n ≡ 15 → x ≡ next → RxRead rs next n x
+  following : n ≡ 15 → x ≡ next → RxRead rs next n x
 
 -- the four-bit immediate as a word
 abbrev pub shortOf : ℕ → ℕ

@@ -24,18 +24,22 @@ pub fn register(regs: &[u16; 16], n: u16) -> u32
     ensures { λ r. ⌜ (r < 65536 → RegRead (now (regs .entry)) (n % 16) r) ⌝ }
 {
     let k = (n % 16) as usize;
-    if USP <= k {
-        return NONE;
+    if k < USP {
+        return wide(regs[k]);
     }
-    wide(regs[k])
+    NONE
 }
 
 // Rs or Rx, by the lowest four bits of `w`: a register below 14, with 15 the address of the following instruction, with 14 none.
 pub fn rx(regs: &[u16; 16], next: u16, w: u16) -> u32
     ensures { λ r. ⌜ (r < 65536 → RxRead (now (regs .entry)) next (w % 16) r) ⌝ }
 {
+    let x = register(regs, w);
+    if x < NONE {
+        return x;
+    }
     if w % 16 == PC {
         return wide(next);
     }
-    register(regs, w)
+    NONE
 }

@@ -11,14 +11,14 @@ use Rattle.hot.specs.Tells.{stay}
 use Rattle.hot.proofs.Hot.operate.Statement.{statement}
 use Rattle.hot.proofs.Hot.operate.Tie as tie
 
-cast-d : tie.Need-cast-d
-cast-d c = search needs
-
 stop-requires : tie.Need-stop-requires
 stop-requires c κs = search needs
 
 returns : tie.Need-returns
 returns c = stay (c .stop .ensures) refl
+
+cast-d : tie.Need-cast-d
+cast-d c = search needs
 
 stop-requires-2 : tie.Need-stop-requires-2
 stop-requires-2 c κs = search needs
@@ -245,8 +245,8 @@ returns-3 c =
     let a = c .before .before .before .before .before .before .before .before .before .args in
     let q = c .before .load-cost .ensures (pre′ .1) in
     rw (c .load .ensures .0, c .load .ensures .1) (load-operates (a .regs .now) (pre′ .0) (a .self) (a .w) (a .x) (pre′ .1)
-    (omega (arith, c .before .before .before .before .before .before .before .before .if1 .left))
-    (c .before .before .before .before .before .before .if2 .left) (c .before .before .before .match .keys1) (c .before .load-cost .result) q
+    (omega (arith, c .before .before .before .before .before .before .if2 .left))
+    (c .before .before .before .before .before .before .before .if1 .left) (c .before .before .before .match .keys1) (c .before .load-cost .result) q
     (omega (arith, q, load-above (modeOf (a .w)) (omega arith))) (omega (arith, q, load-below (modeOf (a .w)) (omega arith))))
 
 returns-4 : tie.Need-returns-4
@@ -255,8 +255,8 @@ returns-4 c =
     let a = c .before .before .before .before .before .before .before .before .before .args in
     let pre′ = c .before .before .before .before .before .before .before .before .before .pre in
     rw (c .with .ensures .0, c .with .ensures .1) (next-operates (a .regs .now) (pre′ .0) (a .self) (a .w) (a .x) (pre′ .1)
-    (omega (arith, c .before .before .before .before .before .before .before .before .if1 .left))
-    (c .before .before .before .before .before .before .if2 .left) (c .before .add .result) (c .before .add .ensures) (λ q. omega arith)
+    (omega (arith, c .before .before .before .before .before .before .if2 .left))
+    (c .before .before .before .before .before .before .before .if1 .left) (c .before .add .result) (c .before .add .ensures) (λ q. omega arith)
     (c .before .before .before .match .keys2) (omega arith) _ add (omega arith))
 
 returns-5 : tie.Need-returns-5
@@ -265,8 +265,8 @@ returns-5 c =
     let a = c .before .before .before .before .before .before .before .before .before .args in
     let pre′ = c .before .before .before .before .before .before .before .before .before .pre in
     rw (c .with2 .ensures .0, c .with2 .ensures .1) (next-operates (a .regs .now) (pre′ .0) (a .self) (a .w) (a .x) (pre′ .1)
-    (omega (arith, c .before .before .before .before .before .before .before .before .if1 .left))
-    (c .before .before .before .before .before .before .if2 .left) (c .before .sub .result) (c .before .sub .ensures) (λ q. omega arith)
+    (omega (arith, c .before .before .before .before .before .before .if2 .left))
+    (c .before .before .before .before .before .before .before .if1 .left) (c .before .sub .result) (c .before .sub .ensures) (λ q. omega arith)
     (c .before .before .before .match .keys3) (omega arith) _ sub (omega arith))
 
 returns-6 : tie.Need-returns-6
@@ -274,7 +274,7 @@ returns-6 c =
     let a = c .before .before .before .before .before .before .before .before .args in
     let pre′ = c .before .before .before .before .before .before .before .before .pre in
     rw (c .flagged .ensures) (compare-operates (a .regs .now) (pre′ .0) (a .self) (a .w) (a .x) (pre′ .1)
-    (omega (arith, c .before .before .before .before .before .before .before .if1 .left)) (c .before .before .before .before .before .if2 .left)
+    (omega (arith, c .before .before .before .before .before .if2 .left)) (c .before .before .before .before .before .before .if1 .left)
     (c .before .sub2 .result) (c .before .before .match .keys4) (c .before .sub2 .ensures))
 
 returns-7 : tie.Need-returns-7
@@ -283,8 +283,8 @@ returns-7 c =
     let a = c .before .before .before .before .before .before .before .before .before .args in
     let pre′ = c .before .before .before .before .before .before .before .before .before .pre in
     rw (c .with3 .ensures .0, c .with3 .ensures .1) (next-operates (a .regs .now) (pre′ .0) (a .self) (a .w) (a .x) (pre′ .1)
-    (omega (arith, c .before .before .before .before .before .before .before .before .if1 .left))
-    (c .before .before .before .before .before .before .if2 .left) (c .before .and .result) (c .before .and .ensures) (λ q. omega arith)
+    (omega (arith, c .before .before .before .before .before .before .if2 .left))
+    (c .before .before .before .before .before .before .before .if1 .left) (c .before .and .result) (c .before .and .ensures) (λ q. omega arith)
     (c .before .before .before .match .keys5) (omega arith) _ and (omega arith))
 
 returns-8 : tie.Need-returns-8
@@ -293,8 +293,8 @@ returns-8 c =
     let a = c .before .before .before .before .before .before .before .before .before .args in
     let pre′ = c .before .before .before .before .before .before .before .before .before .pre in
     rw (c .with4 .ensures .0, c .with4 .ensures .1) (next-operates (a .regs .now) (pre′ .0) (a .self) (a .w) (a .x) (pre′ .1)
-    (omega (arith, c .before .before .before .before .before .before .before .before .if1 .left))
-    (c .before .before .before .before .before .before .if2 .left) (c .before .or .result) (c .before .or .ensures) (λ q. omega arith)
+    (omega (arith, c .before .before .before .before .before .before .if2 .left))
+    (c .before .before .before .before .before .before .before .if1 .left) (c .before .or .result) (c .before .or .ensures) (λ q. omega arith)
     (c .before .before .before .match .keys6) (omega arith) _ or (omega arith))
 
 returns-9 : tie.Need-returns-9
@@ -303,8 +303,8 @@ returns-9 c =
     let a = c .before .before .before .before .before .before .before .before .before .args in
     let pre′ = c .before .before .before .before .before .before .before .before .before .pre in
     rw (c .with5 .ensures .0, c .with5 .ensures .1) (next-operates (a .regs .now) (pre′ .0) (a .self) (a .w) (a .x) (pre′ .1)
-    (omega (arith, c .before .before .before .before .before .before .before .before .if1 .left))
-    (c .before .before .before .before .before .before .if2 .left) (c .before .xor .result) (c .before .xor .ensures) (λ q. omega arith)
+    (omega (arith, c .before .before .before .before .before .before .if2 .left))
+    (c .before .before .before .before .before .before .before .if1 .left) (c .before .xor .result) (c .before .xor .ensures) (λ q. omega arith)
     (c .before .before .before .match .keys7) (omega arith) _ xor (omega arith))
 
 returns-10 : tie.Need-returns-10
@@ -313,8 +313,8 @@ returns-10 c =
     let a = c .before .before .before .before .before .before .before .before .before .before .args in
     let pre′ = c .before .before .before .before .before .before .before .before .before .before .pre in
     rw (c .with6 .ensures .0, c .with6 .ensures .1) (next-operates (a .regs .now) (pre′ .0) (a .self) (a .w) (a .x) (pre′ .1)
-    (omega (arith, c .before .before .before .before .before .before .before .before .before .if1 .left))
-    (c .before .before .before .before .before .before .before .if2 .left) (c .before .before .adds .result) (c .before .before .adds .ensures)
+    (omega (arith, c .before .before .before .before .before .before .before .if2 .left))
+    (c .before .before .before .before .before .before .before .before .if1 .left) (c .before .before .adds .result) (c .before .before .adds .ensures)
     (λ q. omega arith) (c .before .before .before .before .match .keys8) (omega arith) _ adds refl)
 
 returns-11 : tie.Need-returns-11
@@ -323,8 +323,8 @@ returns-11 c =
     let a = c .before .before .before .before .before .before .before .before .before .before .args in
     let pre′ = c .before .before .before .before .before .before .before .before .before .before .pre in
     rw (c .with7 .ensures .0, c .with7 .ensures .1) (next-operates (a .regs .now) (pre′ .0) (a .self) (a .w) (a .x) (pre′ .1)
-    (omega (arith, c .before .before .before .before .before .before .before .before .before .if1 .left))
-    (c .before .before .before .before .before .before .before .if2 .left) (c .before .before .mul .result) (c .before .before .mul .ensures)
+    (omega (arith, c .before .before .before .before .before .before .before .if2 .left))
+    (c .before .before .before .before .before .before .before .before .if1 .left) (c .before .before .mul .result) (c .before .before .mul .ensures)
     (λ q. omega arith) (c .before .before .before .before .match .keys9) (omega arith) _ mul refl)
 
 returns-12 : tie.Need-returns-12
@@ -333,8 +333,8 @@ returns-12 c =
     let a = c .before .before .before .before .before .before .before .before .before .before .args in
     let pre′ = c .before .before .before .before .before .before .before .before .before .before .pre in
     divided-operates (a .regs .now) (pre′ .0) (a .self) (a .w) (a .x) (pre′ .1)
-    (omega (arith, c .before .before .before .before .before .before .before .before .before .if1 .left))
-    (c .before .before .before .before .before .before .before .if2 .left) (c .before .before .div .result) (c .before .before .div .ensures)
+    (omega (arith, c .before .before .before .before .before .before .before .if2 .left))
+    (c .before .before .before .before .before .before .before .before .if1 .left) (c .before .before .div .result) (c .before .before .div .ensures)
     (λ q. omega arith) (c .before .before .before .before .match .keys10) (omega arith) _ div refl (c .divide .ensures)
 
 returns-13 : tie.Need-returns-13
@@ -343,8 +343,8 @@ returns-13 c =
     let a = c .before .before .before .before .before .before .before .before .before .before .args in
     let pre′ = c .before .before .before .before .before .before .before .before .before .before .pre in
     divided-operates (a .regs .now) (pre′ .0) (a .self) (a .w) (a .x) (pre′ .1)
-    (omega (arith, c .before .before .before .before .before .before .before .before .before .if1 .left))
-    (c .before .before .before .before .before .before .before .if2 .left) (c .before .before .modulo .result) (c .before .before .modulo .ensures)
+    (omega (arith, c .before .before .before .before .before .before .before .if2 .left))
+    (c .before .before .before .before .before .before .before .before .if1 .left) (c .before .before .modulo .result) (c .before .before .modulo .ensures)
     (λ q. omega arith) (c .before .before .before .before .match .keys11) (omega arith) _ modulo refl (c .divide2 .ensures)
 
 returns-14 : tie.Need-returns-14
@@ -354,8 +354,8 @@ returns-14 c =
     let pre′ = c .before .before .before .before .before .before .before .before .before .before .before .pre in
     let shl′ = c .before .before .before .shl in
     rw (c .with8 .ensures .0, c .with8 .ensures .1) (shift-operates (a .regs .now) (pre′ .0) (a .self) (a .w) (a .x) (pre′ .1)
-    (omega (arith, c .before .before .before .before .before .before .before .before .before .before .if1 .left))
-    (c .before .before .before .before .before .before .before .before .if2 .left) (shl′ .result) (shl′ .ensures) (λ q. omega arith)
+    (omega (arith, c .before .before .before .before .before .before .before .before .if2 .left))
+    (c .before .before .before .before .before .before .before .before .before .if1 .left) (shl′ .result) (shl′ .ensures) (λ q. omega arith)
     (c .before .before .before .before .before .match .keys12) (omega arith) _ shla refl)
 
 returns-15 : tie.Need-returns-15
@@ -365,8 +365,8 @@ returns-15 c =
     let pre′ = c .before .before .before .before .before .before .before .before .before .before .before .pre in
     let shl2′ = c .before .before .before .shl2 in
     rw (c .with9 .ensures .0, c .with9 .ensures .1) (shift-operates (a .regs .now) (pre′ .0) (a .self) (a .w) (a .x) (pre′ .1)
-    (omega (arith, c .before .before .before .before .before .before .before .before .before .before .if1 .left))
-    (c .before .before .before .before .before .before .before .before .if2 .left) (shl2′ .result) (shl2′ .ensures) (λ q. omega arith)
+    (omega (arith, c .before .before .before .before .before .before .before .before .if2 .left))
+    (c .before .before .before .before .before .before .before .before .before .if1 .left) (shl2′ .result) (shl2′ .ensures) (λ q. omega arith)
     (c .before .before .before .before .before .match .keys13) (omega arith) _ shll refl)
 
 returns-16 : tie.Need-returns-16
@@ -376,8 +376,8 @@ returns-16 c =
     let pre′ = c .before .before .before .before .before .before .before .before .before .before .before .pre in
     let shra′ = c .before .before .before .shra in
     rw (c .with10 .ensures .0, c .with10 .ensures .1) (shift-operates (a .regs .now) (pre′ .0) (a .self) (a .w) (a .x) (pre′ .1)
-    (omega (arith, c .before .before .before .before .before .before .before .before .before .before .if1 .left))
-    (c .before .before .before .before .before .before .before .before .if2 .left) (shra′ .result) (shra′ .ensures) (λ q. omega arith)
+    (omega (arith, c .before .before .before .before .before .before .before .before .if2 .left))
+    (c .before .before .before .before .before .before .before .before .before .if1 .left) (shra′ .result) (shra′ .ensures) (λ q. omega arith)
     (c .before .before .before .before .before .match .keys14) (omega arith) _ shra refl)
 
 returns-17 : tie.Need-returns-17
@@ -387,8 +387,8 @@ returns-17 c =
     let pre′ = c .before .before .before .before .before .before .before .before .before .before .before .pre in
     let shrl′ = c .before .before .before .shrl in
     rw (c .with11 .ensures .0, c .with11 .ensures .1) (shift-operates (a .regs .now) (pre′ .0) (a .self) (a .w) (a .x) (pre′ .1)
-    (omega (arith, c .before .before .before .before .before .before .before .before .before .before .if1 .left))
-    (c .before .before .before .before .before .before .before .before .if2 .left) (shrl′ .result) (shrl′ .ensures) (λ q. omega arith)
+    (omega (arith, c .before .before .before .before .before .before .before .before .if2 .left))
+    (c .before .before .before .before .before .before .before .before .before .if1 .left) (shrl′ .result) (shrl′ .ensures) (λ q. omega arith)
     (c .before .before .before .before .before .match .keys15) (omega arith) _ shrl refl)
 
 returns-18 : tie.Need-returns-18
@@ -398,9 +398,9 @@ pub operate-spec : {M : Type 1} → statement M
 operate-spec =
     tie.close
     (tie.spec
-    cast-d
     stop-requires
     returns
+    cast-d
     stop-requires-2
     returns-2
     mul-a

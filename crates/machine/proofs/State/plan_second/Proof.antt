@@ -57,7 +57,7 @@ meets c =
     ⊎-elim
     (λ w.
     rw (w .0 .taken, w .11, w .12, w .13, ← c .before .plus .ensures, ← w .2 .ensures, ← w .3 .ensures, ← w .5 .ensures)
-    (rw (w .7 .given .1, ← w .9 .ensures, w .10 .ensures)))
+    (rw (w .7 .given .1, ← w .9 .ensures, ← w .10 .ensures)))
     (λ w. rw (w .0 .left, w .1, w .2, w .3, ← c .before .plus .ensures))
     (c .if1 .came)
 
