@@ -181,32 +181,24 @@ impl Hot {
         requires { ⌜ (length (now regs) ≡ 16) × (length (now mem) ≡ 65536) × (self .pc % 2 ≡ 0) × (w / 2048 ≡ ST) ⌝ }
         ensures { λ r. ⌜ Tells (now (map .entry)) (now (regs .entry)) (now (mem .entry)) self w (now (regs .entry)) (now (mem .exit)) r ⌝ }
     {
-        let pc = self.pc;
+        let after = plus(self.pc, 2);
+        let beyond = plus(self.pc, 4);
         let mode = w / 256 % 8;
         match mode {
             0 => {
-                let a = fetch(map, mem, plus(pc, 2));
-                self.store_at(regs, map, mem, w, Width::Word, a, plus(pc, 4), 6)
+                let a = fetch(map, mem, after);
+                self.store_at(regs, map, mem, w, Width::Word, a, beyond, 6)
             }
             1 => {
-                let next = plus(pc, 4);
-                let a = indexed_place(regs, next, fetch(map, mem, plus(pc, 2)), w);
-                self.store_at(regs, map, mem, w, Width::Word, a, next, 6)
+                let a = indexed_place(regs, beyond, fetch(map, mem, after), w);
+                self.store_at(regs, map, mem, w, Width::Word, a, beyond, 6)
             }
             3 => {
                 let a = wide(frame_place(regs, w));
-                self.store_at(regs, map, mem, w, Width::Word, a, plus(pc, 2), 6)
+                self.store_at(regs, map, mem, w, Width::Word, a, after, 6)
             }
-            6 => {
-                let next = plus(pc, 2);
-                let a = rx(regs, next, w);
-                self.store_at(regs, map, mem, w, Width::Word, a, next, 5)
-            }
-            7 => {
-                let next = plus(pc, 2);
-                let a = rx(regs, next, w);
-                self.store_at(regs, map, mem, w, Width::Byte, a, next, 5)
-            }
+            6 => self.store_at(regs, map, mem, w, Width::Word, rx(regs, after, w), after, 5),
+            7 => self.store_at(regs, map, mem, w, Width::Byte, rx(regs, after, w), after, 5),
             _ => self.stop(),
         }
     }
