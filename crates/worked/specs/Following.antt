@@ -19,7 +19,7 @@ unfoldable pub following : List Row
 following =
     -- "Register 15 as Rs ... now gives the address of the following instruction": LD G0,PC
     row at0100 (0x100 ≔ 0x0c0f ∷ []) (G0 ≔ 0x102 ∷ PC ≔ 0x102 ∷ []) [] (Executed 4)
-    -- and in the instructions behind LD: ADD G0,PC
+    -- and of ADD to SHRL: ADD G0,PC
     ∷ row (G0 ≔ 1 ∷ at0100) (0x100 ≔ 0x1c0f ∷ []) (G0 ≔ 0x103 ∷ PC ≔ 0x102 ∷ FLAG ≔ 0x40 ∷ []) [] (Executed 5)
     -- "or Rx", "counting the second word": LD G0,[10h+PC], and ST G0,[10h+PC]
     ∷ row at0100 (0x100 ≔ 0x090f ∷ 0x102 ≔ 0x10 ∷ 0x110 ≔ 0x1111 ∷ 0x112 ≔ 0x2222 ∷ 0x114 ≔ 0x3333 ∷ []) (G0 ≔ 0x3333 ∷ PC ≔ 0x104 ∷ []) [] (Executed 7)
