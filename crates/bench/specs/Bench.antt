@@ -3,8 +3,8 @@
 -- Assumes nothing.
 use mathlib.Core.List.{List}
 use Prim.Native.Nat.{ℕ, _+_}
-use lib.ListN.{replicate, set}
-use Rattle.card.specs.Call.{cardCall, filledPart}
+use lib.ListN.{length, replicate, set}
+use Rattle.card.specs.Call.{cardValid, filledPart}
 use Rattle.layout.specs.Layout.{flagAt, imageSize}
 use Rattle.listing.specs.Listing.{listingOf}
 
@@ -21,4 +21,4 @@ zeroReport = replicate 16380 0
 
 unfoldable pub benchOf : List ℕ → List ℕ
 benchOf card =
-    listingOf ((cardCall zeroMemory firstImage card zeroReport) .answer) (filledPart zeroMemory firstImage card zeroReport)
+    listingOf (cardValid (length zeroMemory) firstImage card (length zeroReport)) (filledPart zeroMemory firstImage card zeroReport)

@@ -8,12 +8,13 @@ use native.Mathlib.Omega.{arith}
 use borrow.Author.Tests.{le-leb}
 use lib.ListN.{drop, length, length-replicate, take}
 use lib.Seq.{take-all, take-at}
-use Rattle.card.specs.Call.{cardCall, filledPart, cardValid}
+use Rattle.card.specs.Call.{cardValid, filledPart}
 use Rattle.command.specs.Card.{readingOf, runsIn}
 use Rattle.card.specs.Laws.{part-short}
 use Rattle.command.specs.Laws.{runs-bound}
-use Rattle.layout.specs.Valid.{allZeros, controlGood, countGood, flagGood, goodImage, imageValid, machineValid, memoryValid, pendingGood, timerGood, zerosGood}
-use Rattle.refusal.specs.Refusal.{andThen, reportFits}
+use Rattle.layout.specs.Valid.{allZeros, controlGood, countGood, flagGood, goodImage, pendingGood, timerGood, zerosGood}
+use Rattle.call.specs.Valid.{imageValid, machineValid, memoryValid, reportFits}
+use Rattle.refusal.specs.Refusal.{andThen}
 use Rattle.refusal.specs.declared.Validity.{Validity}
 use Rattle.refusal.specs.declared.Validity.the-variants.{Good, Refused}
 use Rattle.listing.specs.Laws.{listing-bound}
@@ -26,17 +27,16 @@ pub bench-short : (card : List ℕ) → length (benchOf card) ≤ 65536
 unfolding benchOf
 bench-short card =
     let part : List ℕ = filledPart zeroMemory firstImage card zeroReport in
-    let answer : ℕ = (cardCall zeroMemory firstImage card zeroReport) .answer in
     let short : length part ≤ 16380 = part-short zeroMemory firstImage card zeroReport in
-    omega (arith, listing-bound answer part, short)
+    omega (arith, listing-bound (cardValid (length zeroMemory) firstImage card (length zeroReport)) part, short)
 
 -- what is written to such a text is the whole listing
-module _ (card before after : List ℕ) (answer count : ℕ) (part : List ℕ) (room : 65536 ≤ length before)
-    (a : answer ≡ (cardCall zeroMemory firstImage card zeroReport) .answer) (p : part ≡ filledPart zeroMemory firstImage card zeroReport)
-    (c : count ≡ min (length (listingOf answer part)) (length before)) (w : after ≡ over before (listingOf answer part)) where
-  listing-is : listingOf answer part ≡ benchOf card
+module _ (card before after : List ℕ) (v : Validity) (count : ℕ) (part : List ℕ) (room : 65536 ≤ length before)
+    (a : v ≡ cardValid 65536 firstImage card 16380) (p : part ≡ filledPart zeroMemory firstImage card zeroReport)
+    (c : count ≡ min (length (listingOf v part)) (length before)) (w : after ≡ over before (listingOf v part)) where
+  listing-is : listingOf v part ≡ benchOf card
   unfolding benchOf
-  listing-is = ap (λ (n : ℕ). listingOf n part) a ∙ ap (listingOf ((cardCall zeroMemory firstImage card zeroReport) .answer)) p
+  listing-is = rw (length-replicate {A = ℕ} 65536 0, length-replicate {A = ℕ} 16380 0, a, p)
 
   count-is : count ≡ length (benchOf card)
   count-is =

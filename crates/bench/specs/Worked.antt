@@ -3,7 +3,7 @@
 use mathlib.Core.List.{List, [], _++_, _∷_}
 use mathlib.Core.Path.{refl, _≡_}
 use Prim.Native.Nat.{ℕ}
-use Rattle.card.specs.Call.{cardCall, filledPart, cardValid}
+use Rattle.card.specs.Call.{cardValid, filledPart}
 use Rattle.command.specs.Card.{readAtMost, readFrom, readingOf, runsIn}
 use Rattle.command.specs.Command.{commandOf, goodOf, operandsOf, parsedOf}
 use Rattle.card.specs.Effect.{effectOf, executeOf}
@@ -12,7 +12,8 @@ use Rattle.decode.specs.Decode.{firstOf, hasSecond}
 use Rattle.decode.specs.Instructions.{eight, row, rows, single}
 use Rattle.decode.specs.Opcode.{costOf, inModes, inRows, modeBits, opcodeOf, statesAt}
 use Rattle.image.specs.Decode.{conditionFrom, stateFrom}
-use Rattle.layout.specs.Valid.{allZeros, controlGood, countGood, flagGood, goodImage, imageValid, memoryValid, pendingGood, timerGood, zerosGood}
+use Rattle.layout.specs.Valid.{allZeros, controlGood, countGood, flagGood, goodImage, pendingGood, timerGood, zerosGood}
+use Rattle.call.specs.Valid.{imageValid, memoryValid, reportFits}
 use Rattle.listing.specs.Listing.{endingText, lineOf, linesOf, listingOf, numberText, runsText}
 use Rattle.text.specs.Text.{ascii, decimalOf, hexOf}
 use Rattle.machine.specs.Enter.{enterOf}
@@ -28,7 +29,6 @@ use Rattle.machine.specs.Step.{commit, stepOf}
 use Rattle.transfer.specs.Transfer.{transferOf}
 use Rattle.mmu.specs.Access.{accessOf, alignedAccess}
 use Rattle.memory.specs.Memory.{stored}
-use Rattle.refusal.specs.Refusal.{reportFits}
 use Rattle.report.specs.Report.{reportOf}
 use Rattle.endian.specs.Bytes.{wordBytes}
 use Rattle.bench.specs.Bench.{benchOf}
@@ -46,7 +46,7 @@ abbrev pub workedText : List ℕ
 workedText = ascii "runs 2\n" ++ (ascii "entered 15 4 21 0008 0040\n" ++ ascii "halted - 1 5 0002 0040\n")
 
 pub worked-listing : benchOf workedCard ≡ workedText
-unfolding benchOf cardCall filledPart cardValid readAtMost readFrom readingOf runsIn commandOf goodOf operandsOf parsedOf effectOf executeOf withRegister
+unfolding benchOf filledPart cardValid readAtMost readFrom readingOf runsIn commandOf goodOf operandsOf parsedOf effectOf executeOf withRegister
     memoryValid imageValid goodImage flagGood pendingGood allZeros zerosGood timerGood countGood controlGood reportFits stateFrom conditionFrom
     listingOf runsText linesOf lineOf endingText numberText decimalOf hexOf reportOf wordBytes
     runOf runFrom commit stepOf afterOperation bodyOf eventOf enterOf pushed flagWord

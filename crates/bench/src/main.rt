@@ -20,9 +20,10 @@ fn list_card(card: &[u8], text: &mut [u8]) -> usize
     let mut image = [0u8; IMAGE];
     image[FLAG + 1] = PRIVILEGED;
     let mut report = [0u8; 16380];
-    let mut answer = 0;
-    let filled = card::run_card(&mut memory, &mut image, card, &mut report, &mut answer);
-    listing::write_listing(answer, filled, text)
+    let checked = card::validate_card(memory.len(), &image, card, report.len());
+    let validity = checked.validity;
+    let filled = card::run_card(&mut memory, &mut image, card, &mut report);
+    listing::write_listing(validity, filled, text)
 }
 
 // A card has at most 4,096 bytes; one more is enough to refuse it.

@@ -15,14 +15,14 @@ use Rattle.machine.specs.Enter.{vectorOf}
 use Rattle.machine.specs.declared.Ending.the-variants as ending
 use Rattle.memory.specs.Memory.{wordAt}
 use Rattle.mmu.specs.declared.Right.the-variants.{Write}
-use Rattle.refusal.specs.Call.{Call}
-use Rattle.refusal.specs.Refusal.{answerOf}
+use Rattle.call.specs.Call.{Call, buffers, called}
+use Rattle.call.specs.declared.Answer.the-variants as answer
 use Rattle.refusal.specs.declared.Refusal.{Refusal}
 use Rattle.refusal.specs.declared.Validity.the-variants.{Good, Refused}
 use Rattle.report.specs.Layout.{endingAt, numberAt}
 use Rattle.roundtrip.specs.Statement.{Bytes}
 use Rattle.direct.specs.Call.{runCall}
-use Rattle.view.specs.Call.{runValid}
+use Rattle.call.specs.Valid.{runValid}
 use Rattle.endian.specs.Bytes.{byteFrom, wordFrom}
 use Rattle.word.specs.Word.{upper}
 
@@ -30,7 +30,7 @@ use Rattle.word.specs.Word.{upper}
 
 -- the call's report says that the kernel was entered
 abbrev pub Enters : Call → Type 0
-Enters c = byteFrom (c .report) endingAt ≡ endingNumber (ending.Entered 0 0 0)
+Enters c = byteFrom (c .lent .report) endingAt ≡ endingNumber (ending.Entered 0 0 0)
 
 -- "the handler address loaded at a kernel entry": PC's bytes in the image, 30 and 31
 abbrev pub PcByte : ℕ → Type 0
@@ -38,13 +38,13 @@ PcByte k = (k ≡ pcAt) ⊎ (k ≡ pcAt + 1)
 
 -- there stands the address of the handler of the number entered, in the memory that the call left
 abbrev pub AtHandler : Call → Type 0
-AtHandler c = wordFrom (c .image) pcAt ≡ wordAt (c .memory) (vectorOf (byteFrom (c .report) numberAt))
+AtHandler c = wordFrom (c .lent .image) pcAt ≡ wordAt (c .lent .memory) (vectorOf (byteFrom (c .lent .report) numberAt))
 
 -- ---- refusals
 
 -- demand 1: "one of eight numbered refusals with memory, state and report untouched"
 abbrev pub refusedCall : Refusal → List ℕ → List ℕ → List ℕ → Call
-refusedCall r m b rep = record { answer = answerOf r; memory = m; image = b; report = rep }
+refusedCall r m b rep = called (answer.Refused r) (buffers m b rep)
 
 -- ---- two calls, on the memories m and m′, with the image b
 
@@ -62,23 +62,23 @@ pub record Given (m m′ b : List ℕ) : Type 0 where
 abbrev pub Spared : List ℕ → List ℕ → Call → Type 0
 Spared b n c =
     (a : ℕ) → hasRight ((stateFrom b) .tlb) Write (upper a) ≡ false
-    → (getD (c .memory) a 0 ≡ getD n a 0) ⊎ (Enters c × Pushed (wordFrom b sspAt) a)
+    → (getD (c .lent .memory) a 0 ≡ getD n a 0) ⊎ (Enters c × Pushed (wordFrom b sspAt) a)
 
 -- what the calls share
 pub record Shared (m m′ b : List ℕ) (c c′ : Call) : Type 0 where
   -- "share every answer: ending, number entered, step and state count, PC and FLAG (the saved ones after an entry)"
   pub answer : c .answer ≡ c′ .answer
-  pub report : c .report ≡ c′ .report
+  pub report : c .lent .report ≡ c′ .lent .report
   -- "They share every byte of state too, except the handler address loaded at a kernel entry"
-  pub imageLong : length (c .image) ≡ imageSize
-  pub imageLong′ : length (c′ .image) ≡ imageSize
-  pub image : (k : ℕ) → (getD (c .image) k 0 ≡ getD (c′ .image) k 0) ⊎ (Enters c × PcByte k)
+  pub imageLong : length (c .lent .image) ≡ imageSize
+  pub imageLong′ : length (c′ .lent .image) ≡ imageSize
+  pub image : (k : ℕ) → (getD (c .lent .image) k 0 ≡ getD (c′ .lent .image) k 0) ⊎ (Enters c × PcByte k)
   pub handler : Enters c → AtHandler c
   pub handler′ : Enters c′ → AtHandler c′
   -- "Their memories afterwards differ only at bytes where they did before"
-  pub memoryLong : length (c .memory) ≡ 65536
-  pub memoryLong′ : length (c′ .memory) ≡ 65536
-  pub memory : (a : ℕ) → getD m a 0 ≡ getD m′ a 0 → getD (c .memory) a 0 ≡ getD (c′ .memory) a 0
+  pub memoryLong : length (c .lent .memory) ≡ 65536
+  pub memoryLong′ : length (c′ .lent .memory) ≡ 65536
+  pub memory : (a : ℕ) → getD m a 0 ≡ getD m′ a 0 → getD (c .lent .memory) a 0 ≡ getD (c′ .lent .memory) a 0
   -- "and in each, every byte of a frame without write right is what it was at the start"
   pub spared : Spared b m c
   pub spared′ : Spared b m′ c′

@@ -32,8 +32,10 @@ use Rattle.roundtrip.specs.Good.{image-long, rejoined, spelled-out, spelledOut,
 use Rattle.roundtrip.specs.Runs.{run-sound, sound-decoded}
 use Rattle.roundtrip.specs.Statement.{Bytes, GoodState, Ranged, Sound}
 use Rattle.direct.specs.Call.{ranCall, runCall}
-use Rattle.view.specs.Call.{runValid}
-use Rattle.view.specs.Valid.{passed}
+use Rattle.call.specs.Call.{buffers}
+use Rattle.call.specs.Laws.{refused-leaves}
+use Rattle.call.specs.Valid.{runValid}
+use Rattle.call.specs.Passed.{passed}
 use Rattle.endian.specs.Bytes.{wordBytes, wordFrom}
 use Rattle.calls.specs.Statement.{AtHandler, Enters, Given, IsolatedCalls, PcByte, Shared, Spared, refusedCall}
 
@@ -146,7 +148,7 @@ module _ (m m′ b : List ℕ) (n : ℕ) (rep : List ℕ) (long : length m ≡ l
       (r : Refusal) → runValid (length m) b (length rep) ≡ Refused r
       → (runCall m b n rep ≡ refusedCall r m b rep) × (runCall m′ b n rep ≡ refusedCall r m′ b rep)
   unfolding runCall
-  refuses r e = (rw e, rw (← long, e))
+  refuses r e = (refused-leaves (buffers m b rep) _ _ r e, refused-leaves (buffers m′ b rep) _ _ r (rw long at e))
 
   shares : runValid (length m) b (length rep) ≡ Good → Given m m′ b → Shared m m′ b (runCall m b n rep) (runCall m′ b n rep)
   unfolding runCall

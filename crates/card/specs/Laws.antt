@@ -6,18 +6,16 @@ use Prim.Native.Nat.{ℕ, _*_, _+_, _<_, _≤_}
 use native.Mathlib.Omega.{arith}
 use lib.ListN.{length, length-append, take}
 use lib.Seq.{length-take-le, take-at}
-use borrow.Author.Tests.{le-ltb, lt-ltb}
-use Rattle.refusal.specs.Call.{Call, called, unlessRefused}
+use Rattle.call.specs.Call.{Buffers, Call, buffers, called, givenBy, unlessRefused}
+use Rattle.call.specs.declared.Answer.{Answer}
 use Rattle.image.specs.Decode.{stateFrom}
-use Rattle.refusal.specs.Laws.{answer-large}
 use Rattle.endian.specs.Bytes.{wordBytes}
-use Rattle.refusal.specs.Refusal.{answerOf}
 use Rattle.report.specs.Layout.{reportSize}
 use Rattle.report.specs.Report.{reportOf}
 use Rattle.refusal.specs.declared.Validity.{Validity}
 use Rattle.refusal.specs.declared.Validity.the-variants.{Good, Refused}
 use Rattle.machine.specs.declared.State.{State}
-use Rattle.card.specs.Call.{cardCall, filledBy, filledPart, ifGood, executedCall, cardValid}
+use Rattle.card.specs.Call.{cardCall, cardValid, executedCall, filledPart, ifGood}
 use Rattle.command.specs.Card.{isRun, readingOf, runsIn}
 use Rattle.command.specs.Laws.{runs-bound}
 use Rattle.card.specs.Effect.{Effect, effectOf, executeOf}
@@ -54,33 +52,37 @@ in-front xs ys n e = (omega (arith, length-append xs ys), take-at xs ys n e)
 
 -- a call by what its tests say
 abbrev callBy : Validity → List ℕ → List ℕ → List ℕ → ℕ → Effect → Call
-callBy v m b rep n p = unlessRefused v (called m b rep) (executedCall n p rep)
+callBy v m b rep n p = unlessRefused v (buffers m b rep) (executedCall n p rep)
 
 handed-by :
-    (v : Validity) (m b rep : List ℕ) (n : ℕ) (p : Effect) → n < 4294967296 → length (p .reports) ≡ n → let c : Call = callBy v m b rep n p in
-    (filledBy (c .answer) ≤ length (c .report)) × (take (filledBy (c .answer)) (c .report) ≡ ifGood v (p .reports))
-handed-by (Refused r) m b rep n p h e = rw (le-ltb (answerOf r) 4294967296 (answer-large r)) (omega arith, refl)
-handed-by Good m b rep n p h e = rw (lt-ltb n 4294967296 h) (in-front (p .reports) _ n e)
+    (v : Validity) (m b rep : List ℕ) (n : ℕ) (p : Effect) → length (p .reports) ≡ n → let c : Call = callBy v m b rep n p in
+    (givenBy (c .answer) ≤ length (c .lent .report)) × (take (givenBy (c .answer)) (c .lent .report) ≡ ifGood v (p .reports))
+handed-by (Refused r) m b rep n p e = (omega arith, refl)
+handed-by Good m b rep n p e = in-front (p .reports) _ n e
 
 -- the part that the answer says is filled is within the report, and holds the reports
-module _ (m b card rep rep′ : List ℕ) (filled answer : ℕ) (f : filled ≡ filledBy answer) (a : answer ≡ (cardCall m b card rep) .answer)
-    (r : rep′ ≡ (cardCall m b card rep) .report) where
-  handed : (filledBy ((cardCall m b card rep) .answer) ≤ length ((cardCall m b card rep) .report))
-      × (take (filledBy ((cardCall m b card rep) .answer)) ((cardCall m b card rep) .report) ≡ filledPart m b card rep)
+module _ (m b card rep : List ℕ) where
+  handed :
+      let c : Call = cardCall m b card rep in
+      (givenBy (c .answer) ≤ length (c .lent .report)) × (take (givenBy (c .answer)) (c .lent .report) ≡ filledPart m b card rep)
   unfolding cardCall filledPart
   handed =
-      handed-by (cardValid (length m) b card (length rep)) m b rep (reportSize * runsIn ((readingOf card) .commands)) (executeOf ((readingOf card) .commands) (stateFrom b) m)
-      (omega (arith, runs-bound card))
-      (all-reports-long ((readingOf card) .commands) (stateFrom b) m)
+      handed-by (cardValid (length m) b card (length rep)) m b rep (reportSize * runsIn ((readingOf card) .commands))
+      (executeOf ((readingOf card) .commands) (stateFrom b) m) (all-reports-long ((readingOf card) .commands) (stateFrom b) m)
 
-  said : filled ≡ filledBy ((cardCall m b card rep) .answer)
-  said = f ∙ ap filledBy a
+  -- of a call that has been made: its answer, what it left, and the number that it gave
+  module _ (answer : Answer) (left : Buffers) (filled : ℕ) (did : called answer left ≡ cardCall m b card rep) (f : filled ≡ givenBy answer) where
+    given-is : filled ≡ givenBy ((cardCall m b card rep) .answer)
+    given-is = f ∙ ap (λ (c : Call). givenBy (c .answer)) did
 
-  pub part-long : filled ≡ length (take filled rep′)
-  part-long = sym (length-take-le filled rep′ (rw (said, r) (handed .0)))
+    report-is : left .report ≡ (cardCall m b card rep) .lent .report
+    report-is = ap (λ (c : Call). c .lent .report) did
 
-  pub part-holds : take filled rep′ ≡ filledPart m b card rep
-  part-holds = rw (said, r) (handed .1)
+    pub part-long : filled ≡ length (take filled (left .report))
+    part-long = sym (length-take-le filled (left .report) (rw (given-is, report-is) (handed .0)))
+
+    pub part-holds : take filled (left .report) ≡ filledPart m b card rep
+    part-holds = rw (given-is, report-is) (handed .1)
 
 part-short-by : (v : Validity) (bytes : List ℕ) (n : ℕ) → length bytes ≤ n → length (ifGood v bytes) ≤ n
 part-short-by (Refused r) bytes n h = omega arith

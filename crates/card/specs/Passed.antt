@@ -3,10 +3,9 @@
 use mathlib.Core.List.{List}
 use mathlib.Core.Path.{_≡_}
 use Prim.Native.Nat.{ℕ, _*_, _≤_}
-use Rattle.layout.specs.Laws.{MachineGood, machine-good, machine-passes}
-use Rattle.layout.specs.Valid.{machineValid}
-use Rattle.refusal.specs.Laws.{report-good, report-passes, then-good}
-use Rattle.refusal.specs.Refusal.{reportFits}
+use Rattle.call.specs.Passed.{MachineGood, machine-good, machine-passes, report-good, report-passes}
+use Rattle.call.specs.Valid.{machineValid, reportFits}
+use Rattle.refusal.specs.Laws.{then-good}
 use Rattle.refusal.specs.declared.Validity.the-variants.{Good}
 use Rattle.report.specs.Layout.{reportSize}
 use Rattle.command.specs.Card.{readingOf, runsIn}

@@ -8,9 +8,10 @@ ghost use Rattle.card.specs.Inside.{filledOf, imageEffect};
 ghost use Rattle.command.specs.Card.{cardSize};
 ghost use Rattle.image.specs.Image.{imageOf};
 ghost use Rattle.layout.specs.Layout.{imageSize};
-ghost use Rattle.refusal.specs.Call.{called};
+ghost use Rattle.call.specs.Call.{buffers, called, givenBy};
 use crate::effects::execute;
 use crate::validity::validate_card;
+use call::Answer;
 use refusal::Validity;
 
 // A card on buffers that are valid.
@@ -25,47 +26,43 @@ fn execute_valid(memory: &mut [u8], image: &mut [u8], card: &[u8], report: &mut 
     image::write_image(image, last);
 }
 
-// A card: the answer of `tac_card`, the reports at the front of `report`, the bytes behind them kept.
-pub fn perform(memory: &mut [u8], image: &mut [u8], card: &[u8], report: &mut [u8]) -> u64
-    ensures { λ r. ⌜ called (now (memory .exit)) (now (image .exit)) (now (report .exit)) r ≡ def.cardCall (now (memory .entry)) (now (image .entry)) (now (card .entry)) (now (report .entry)) ⌝ }
+// A card, the reports at the front of `report`, the bytes behind them kept; it gives the number of report bytes filled.
+pub fn perform(memory: &mut [u8], image: &mut [u8], card: &[u8], report: &mut [u8]) -> Answer
+    ensures { λ r. ⌜ called r (buffers (now (memory .exit)) (now (image .exit)) (now (report .exit))) ≡ def.cardCall (now (memory .entry)) (now (image .entry)) (now (card .entry)) (now (report .entry)) ⌝ }
 {
     let checked = validate_card(memory.len(), image, card, report.len());
     let validity = checked.validity;
     match validity {
-        Validity::Refused(refusal) => refusal::answer_of(refusal),
+        Validity::Refused(refusal) => Answer::Refused(refusal),
         Validity::Good => {
             execute_valid(memory, image, card, report);
-            checked.needed as u64
+            let filled = checked.needed as u32;
+            Answer::Done(filled)
         }
     }
 }
 
-// The bytes filled, by the answer: none if it is a refusal.
-fn filled_by(answer: u64) -> usize
-    ensures { λ r. ⌜ r ≡ def.filledBy answer ⌝ }
+// The number that a card gives, or 0 if it is refused.
+fn given_by(answer: Answer) -> usize
+    ensures { λ r. ⌜ r ≡ givenBy answer ⌝ }
 {
-    if answer < 4294967296 {
-        answer as usize
-    } else {
-        0
+    match answer {
+        Answer::Refused(_) => 0,
+        Answer::Done(filled) => filled as usize,
     }
 }
 
-// A card: the filled front part of the report is handed back, empty on a refusal.
+// A card: the filled front part of the report is handed back, empty on a refusal. Whether the card was refused, `validate_card` tells.
 pub fn run_card<'a>(
     memory: &mut [u8],
     image: &mut [u8],
     card: &[u8],
     report: &'a mut [u8],
-    answer: &mut u64,
 ) -> &'a mut [u8]
     ensures part { λ r. ⌜ now r ≡ def.filledPart (now (memory .entry)) (now (image .entry)) (now (card .entry)) (now (report .entry)) ⌝ }
-    ensures answer { λ _. ⌜ now (answer .exit) ≡ (def.cardCall (now (memory .entry)) (now (image .entry)) (now (card .entry)) (now (report .entry))) .answer ⌝ }
-    ensures memory { λ _. ⌜ now (memory .exit) ≡ (def.cardCall (now (memory .entry)) (now (image .entry)) (now (card .entry)) (now (report .entry))) .memory ⌝ }
-    ensures image { λ _. ⌜ now (image .exit) ≡ (def.cardCall (now (memory .entry)) (now (image .entry)) (now (card .entry)) (now (report .entry))) .image ⌝ }
+    ensures memory { λ _. ⌜ now (memory .exit) ≡ (def.cardCall (now (memory .entry)) (now (image .entry)) (now (card .entry)) (now (report .entry))) .lent .memory ⌝ }
+    ensures image { λ _. ⌜ now (image .exit) ≡ (def.cardCall (now (memory .entry)) (now (image .entry)) (now (card .entry)) (now (report .entry))) .lent .image ⌝ }
 {
-    let called = perform(memory, image, card, report);
-    *answer = called;
-    let filled = filled_by(called);
+    let filled = given_by(perform(memory, image, card, report));
     &mut report[..filled]
 }

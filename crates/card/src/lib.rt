@@ -7,9 +7,10 @@ pub use calls::perform;
 pub use calls::run_card;
 use machine::State;
 use refusal::Validity;
+pub use validity::validate_card;
 
 // The tests of a card's call, and the report bytes that its runs need.
-struct CallValidity {
+pub struct CallValidity {
     pub validity: Validity,
     pub needed: usize,
 }

@@ -14,8 +14,8 @@ pub fn validate_card(memory: usize, image: &[u8], card: &[u8], report: usize) ->
     let counted = tally::count(card);
     let alone = counted.validity;
     let needed = REPORT * counted.runs;
-    let machine = layout::validate_machine(memory, image);
-    let fits = refusal::report_fits(report, needed);
+    let machine = call::validate_machine(memory, image);
+    let fits = call::report_fits(report, needed);
     CallValidity {
         validity: refusal::and_then(refusal::and_then(machine, alone), fits),
         needed,

@@ -7,10 +7,11 @@ ghost use Rattle.image.specs.Decode.{stateFrom};
 ghost use Rattle.image.specs.Image.{imageOf};
 ghost use Rattle.layout.specs.Layout.{imageSize};
 ghost use Rattle.machine.specs.Run.{runOf};
-ghost use Rattle.refusal.specs.Call.{called};
+ghost use Rattle.call.specs.Call.{buffers, called};
 ghost use Rattle.report.specs.Layout.{reportSize};
 ghost use Rattle.report.specs.Report.{reportOfRan};
 ghost use Rattle.direct.specs.Call as def;
+use call::Answer;
 use refusal::Validity;
 use report::REPORT;
 
@@ -38,15 +39,16 @@ fn run_valid(memory: &mut [u8], image: &mut [u8], allowance: u16, report: &mut [
     );
 }
 
-// A run: the answer of `tac_run`, its report at the front of `report`.
-pub fn run(memory: &mut [u8], image: &mut [u8], allowance: u16, report: &mut [u8]) -> u64
-    ensures { λ r. ⌜ called (now (memory .exit)) (now (image .exit)) (now (report .exit)) r ≡ def.runCall (now (memory .entry)) (now (image .entry)) allowance (now (report .entry)) ⌝ }
+// A run, its report at the front of `report`; it gives the number of report bytes filled.
+pub fn run(memory: &mut [u8], image: &mut [u8], allowance: u16, report: &mut [u8]) -> Answer
+    ensures { λ r. ⌜ called r (buffers (now (memory .exit)) (now (image .exit)) (now (report .exit))) ≡ def.runCall (now (memory .entry)) (now (image .entry)) allowance (now (report .entry)) ⌝ }
 {
-    match view::validate_run(memory.len(), image, report.len()) {
-        Validity::Refused(refusal) => refusal::answer_of(refusal),
+    match call::validate_run(memory.len(), image, report.len()) {
+        Validity::Refused(refusal) => Answer::Refused(refusal),
         Validity::Good => {
             run_valid(memory, image, allowance, report);
-            REPORT as u64
+            let filled = REPORT as u32;
+            Answer::Done(filled)
         }
     }
 }

@@ -72,7 +72,7 @@ impl Hot {
             return self.stop();
         }
         if self.taken(n as u8) {
-            return self.to(((word_at(mem, i) + add) % 65536) as u16, 5);
+            return self.to(plus(word_at(mem, i) as u16, add as u16), 5);
         }
         self.to(plus(self.pc, 4), 4)
     }
@@ -97,7 +97,7 @@ impl Hot {
         let sp = minus(regs[SP], 2);
         if write(map, mem, Width::Word, sp as u32, plus(self.pc, 4)) {
             regs[SP] = sp;
-            return self.to(((d + add) % 65536) as u16, 6);
+            return self.to(plus(d as u16, add as u16), 6);
         }
         self.stop()
     }

@@ -154,7 +154,7 @@ module _ (st : State) where
       (t : Transfer) → TransferIn t → (s : State) (ins : Instruction) → plain (ins .code) ≡ true → (held address following : ℕ)
       → PlanIn (planTransfer t s ins held address following)
   rest-in (transfer.Done source second stores) h s ins c held address following =
-      end-by PlanIn _ (λ pc states. record { plainCode = c; spares = h }) (λ number saved l. tt) (ins .flow) (s .pc) _
+      end-by PlanIn _ (λ pc states. record { plainCode = c; spares = h }) (λ number saved l h. tt) (ins .flow) (s .pc) _
   rest-in (transfer.Fails why a) h s ins c held address following = tt
 
   module _ (u : UserMode st) (m : List ℕ) where

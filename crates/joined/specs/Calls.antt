@@ -5,6 +5,8 @@ use mathlib.Core.List.{List}
 use mathlib.Core.Path.{_≡_}
 use Prim.Native.Nat.{ℕ, _*_}
 use lib.ListN.{length}
+use Rattle.call.specs.Call.{buffers}
+use Rattle.call.specs.Laws.{good-does}
 use Rattle.card.specs.Call.{cardCall, executedCall, cardValid}
 use Rattle.command.specs.Card.{readingOf, runsIn}
 use Rattle.card.specs.Effect.{Effect, executeOf}
@@ -30,7 +32,7 @@ cardExecuted m b card = executeOf ((readingOf card) .commands) (stateFrom b) m
 module _ (m b card rep : List ℕ) (good : cardValid (length m) b card (length rep) ≡ Good) where
   pub call-is : cardCall m b card rep ≡ executedCall (reportSize * runsIn ((readingOf card) .commands)) (cardExecuted m b card) rep
   unfolding cardCall
-  call-is = rw good
+  call-is = good-does (buffers m b rep) _ _ good
 
   module _ (memory : Bytes m) (image : Bytes b) (bytes : Bytes card) where
     pub call-keeps : Kept (length m) ((cardExecuted m b card) .state) ((cardExecuted m b card) .memory)
@@ -52,7 +54,7 @@ module _ (m b card rep : List ℕ) (good : cardValid (length m) b card (length r
         })
 
     -- the image that a card leaves is good
-    pub card-image : goodImage ((cardCall m b card rep) .image) ≡ true
+    pub card-image : goodImage ((cardCall m b card rep) .lent .image) ≡ true
     card-image = leaves .imageGood
 
 -- what a card leaves can be handed to another call

@@ -8,7 +8,8 @@ use Prim.Native.Nat.{ℕ, _+_, _≤_}
 use lib.ListN.{drop, length, take}
 use Rattle.card.specs.Call.{cardCall, cardValid}
 use Rattle.command.specs.Card.{cardSize, readingOf}
-use Rattle.refusal.specs.Call.{Call}
+use Rattle.call.specs.Call.{Call, givenBy}
+use Rattle.call.specs.declared.Answer.the-variants.{Done}
 use Rattle.layout.specs.Layout.{imageSize}
 use Rattle.layout.specs.Valid.{goodImage}
 use Rattle.refusal.specs.declared.Validity.the-variants.{Good}
@@ -23,13 +24,13 @@ module _ (m b a c rep : List ℕ) where
 
   -- the second card's call is handed the memory and the image that the first left, and the report behind the bytes that the first filled
   abbrev pub memoryLeft : List ℕ
-  memoryLeft = firstCall .memory
+  memoryLeft = firstCall .lent .memory
 
   abbrev pub imageLeft : List ℕ
-  imageLeft = firstCall .image
+  imageLeft = firstCall .lent .image
 
   abbrev pub reportLeft : List ℕ
-  reportLeft = drop (firstCall .answer) (firstCall .report)
+  reportLeft = drop (givenBy (firstCall .answer)) (firstCall .lent .report)
 
   abbrev pub secondCall : Call
   secondCall = cardCall memoryLeft imageLeft c reportLeft
@@ -53,11 +54,11 @@ module _ (m b a c rep : List ℕ) where
     pub firstGood : cardValid (length m) b a (length rep) ≡ Good
     pub secondGood : cardValid (length memoryLeft) imageLeft c (length reportLeft) ≡ Good
     -- the second call leaves the memory and the image that the joint one does
-    pub memory : jointCall .memory ≡ secondCall .memory
-    pub image : jointCall .image ≡ secondCall .image
+    pub memory : jointCall .lent .memory ≡ secondCall .lent .memory
+    pub image : jointCall .lent .image ≡ secondCall .lent .image
     -- the joint call fills as many report bytes as the two, with the first's reports and the second's behind them
-    pub answer : jointCall .answer ≡ firstCall .answer + secondCall .answer
-    pub report : jointCall .report ≡ take (firstCall .answer) (firstCall .report) ++ secondCall .report
+    pub answer : jointCall .answer ≡ Done (givenBy (firstCall .answer) + givenBy (secondCall .answer))
+    pub report : jointCall .lent .report ≡ take (givenBy (firstCall .answer)) (firstCall .lent .report) ++ secondCall .lent .report
 
   -- The joint call passes its tests wherever the two calls pass theirs and the cards are together no longer than one may be.
   pub record Apart : Type 0 where
@@ -69,11 +70,11 @@ module _ (m b a c rep : List ℕ) where
 
 -- of a call with memory `m`: a memory of bytes as long as that, and an image of bytes that is good
 pub record Left (m : List ℕ) (call : Call) : Type 0 where
-  pub memoryBytes : Bytes (call .memory)
-  pub memoryLong : length (call .memory) ≡ length m
-  pub imageBytes : Bytes (call .image)
-  pub imageLong : length (call .image) ≡ imageSize
-  pub imageGood : goodImage (call .image) ≡ true
+  pub memoryBytes : Bytes (call .lent .memory)
+  pub memoryLong : length (call .lent .memory) ≡ length m
+  pub imageBytes : Bytes (call .lent .image)
+  pub imageLong : length (call .lent .image) ≡ imageSize
+  pub imageGood : goodImage (call .lent .image) ≡ true
 
 -- ---- the theorems
 

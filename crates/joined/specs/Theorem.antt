@@ -12,7 +12,7 @@ use Rattle.card.specs.Laws.{all-reports-long}
 use Rattle.card.specs.Effect.{Effect, executeOf}
 use Rattle.card.specs.Passed.{Passed, passed, passes}
 use Rattle.command.specs.declared.Command.{Command}
-use Rattle.refusal.specs.Call.{Call}
+use Rattle.call.specs.Call.{Call, givenBy}
 use Rattle.image.specs.Decode.{stateFrom}
 use Rattle.refusal.specs.declared.Validity.the-variants.{Good}
 use Rattle.report.specs.Layout.{reportSize}
@@ -52,11 +52,11 @@ module _ (m b a c rep : List ℕ) where
     first-is = call-is m b a rep good
 
     memory-is : memoryLeft m b a c rep ≡ one .memory
-    memory-is = ap (λ (x : Call). x .memory) first-is
+    memory-is = ap (λ (x : Call). x .lent .memory) first-is
 
     rest-is : reportLeft m b a c rep ≡ drop filled rep
     rest-is =
-        ap (λ (x : Call). drop (x .answer) (x .report)) first-is
+        ap (λ (x : Call). drop (givenBy (x .answer)) (x .lent .report)) first-is
         ∙ drop-at (one .reports) (drop filled rep) filled (all-reports-long (commands a) (stateFrom b) m)
 
   -- ---- both calls pass their tests: so does the joint one
@@ -97,7 +97,7 @@ module _ (m b a c rep : List ℕ) where
     between =
         let k : Kept (length m) (one .state) (one .memory) =
         call-keeps m b a rep first-passes (given .memoryBytes) (given .imageBytes) (given .cardBytes) in
-        ap (λ (x : Call). stateFrom (x .image)) (first-is first-passes) ∙ decoded (one .state) (k .sound .good) (k .sound .ranged)
+        ap (λ (x : Call). stateFrom (x .lent .image)) (first-is first-passes) ∙ decoded (one .state) (k .sound .good) (k .sound .ranged)
 
     left : Left m (firstCall m b a c rep)
     left = card-leaves m b a rep first-passes (given .memoryBytes) (given .imageBytes) (given .cardBytes)
@@ -126,15 +126,12 @@ module _ (m b a c rep : List ℕ) where
     do-as-one : AsOne m b a c rep
     do-as-one =
         let f : firstCall m b a c rep ≡ executedCall filled one rep = first-is first-passes in
-        let n : (firstCall m b a c rep) .answer ≡ filled = ap (λ (x : Call). x .answer) f in
-        let k : (secondCall m b a c rep) .answer ≡ reportSize * runsIn (commands c) = ap (λ (x : Call). x .answer) second-is in
-        let all : (jointCall m b a c rep) .answer ≡ filled + reportSize * runsIn (commands c) = ap (λ (x : Call). x .answer) joint-is in
         record {
           firstGood = first-passes;
           secondGood = second-passes;
           memory = rw (joint-is, second-is);
           image = rw (joint-is, second-is);
-          answer = omega arith;
+          answer = rw (joint-is, second-is, f);
           report =
               rw (
                 joint-is,

@@ -5,13 +5,9 @@ use mathlib.Core.Bool.{Bool, cond, true, _&&_}
 use mathlib.Core.List.{List}
 use Prim.Native.Nat.{suc, zero, ℕ, _%_, _+_, _/_}
 use lib.Dec.{eqb, ltb}
-use lib.ListN.{getD, length}
-use Rattle.refusal.specs.Refusal.{andThen, refused}
-use Rattle.refusal.specs.declared.Cause.the-variants.{ImageField, ImageLength, MemoryLength}
-use Rattle.refusal.specs.declared.Validity.{Validity}
-use Rattle.refusal.specs.declared.Validity.the-variants.{Good}
+use lib.ListN.{getD}
 use Rattle.endian.specs.Bytes.{byteFrom, wordFrom}
-use Rattle.layout.specs.Layout.{causeAt, conditionAt, controlIn, countIn, firedIn, flagAt, imageSize, mmuAt, pendingAt, periodIn, timer0At, timer1At, tlbAt}
+use Rattle.layout.specs.Layout.{causeAt, conditionAt, controlIn, countIn, firedIn, flagAt, mmuAt, pendingAt, periodIn, timer0At, timer1At, tlbAt}
 
 -- "FLAG is 0000 0000 EPI0 VCSZ"
 unfoldable pub flagGood : ℕ → Bool
@@ -56,15 +52,3 @@ goodImage b =
     && (allZeros b tlbAt 8
     && (timerGood b timer0At
     && timerGood b timer1At))))))
-
--- the memory: refusal 1
-unfoldable pub memoryValid : ℕ → Validity
-memoryValid long = cond (eqb long 65536) Good (refused MemoryLength 0)
-
--- the image: refusals 2 and 3
-unfoldable pub imageValid : List ℕ → Validity
-imageValid image = cond (eqb (length image) imageSize) (cond (goodImage image) Good (refused ImageField 0)) (refused ImageLength 0)
-
--- memory and image: refusals 1 to 3
-abbrev pub machineValid : ℕ → List ℕ → Validity
-machineValid long image = andThen (memoryValid long) (imageValid image)

@@ -1,4 +1,4 @@
-// The layout of a state image: the offset of each field, sizes in bytes, TLB entries in bytes; and the tests of an image.
+// The layout of a state image: the offset of each field, sizes in bytes, TLB entries in bytes; and the tests of its fields.
 mod entries;
 mod validity;
 
@@ -6,9 +6,8 @@ pub use entries::entry_from;
 pub use entries::put_entries;
 pub use entries::tlb_entries_from;
 pub use validity::flag_good;
+pub use validity::good_image;
 pub use validity::pending_good;
-pub use validity::validate_image;
-pub use validity::validate_machine;
 pub use validity::zeros_good;
 
 // The offsets.

@@ -1,10 +1,9 @@
-// The tests of memory and image.
+// The tests of an image's fields.
 ghost use mathlib.Core.Path.{_≡_};
 ghost use Prim.Native.Nat.{_+_, _≤_};
 ghost use lib.ListN.{length};
 ghost use Rattle.layout.specs.Layout.{imageSize, timerSize, tlbAt};
 ghost use Rattle.layout.specs.Valid as def;
-ghost use Rattle.refusal.specs.Refusal as said;
 use crate::CAUSE;
 use crate::CONDITION;
 use crate::CONTROL;
@@ -13,7 +12,6 @@ use crate::ENTRIES;
 use crate::ENTRY;
 use crate::FIRED;
 use crate::FLAG;
-use crate::IMAGE;
 use crate::MIDDLE;
 use crate::MMU;
 use crate::PENDING;
@@ -22,12 +20,6 @@ use crate::TIMER0;
 use crate::TIMER1;
 use crate::TLB;
 use endian::word_from;
-use refusal::Cause;
-use refusal::Refusal;
-use refusal::Validity;
-
-// Bytes of memory.
-const MEMORY: usize = 65536;
 
 // FLAG within its values.
 pub fn flag_good(w: u16) -> bool
@@ -91,7 +83,8 @@ fn timer_good(image: &[u8], at: usize) -> bool
     count_good(count, period) & (control_good(control) & (fired < 2))
 }
 
-fn good_image(image: &[u8]) -> bool
+// Every field within its values.
+pub fn good_image(image: &[u8]) -> bool
     requires { ⌜ length (now image) ≡ imageSize ⌝ }
     ensures { λ r. ⌜ r ≡ def.goodImage (now (image .entry)) ⌝ }
 {
@@ -102,43 +95,4 @@ fn good_image(image: &[u8]) -> bool
                     & ((image[CAUSE] < 4)
                         & (all_zeros(image)
                             & (timer_good(image, TIMER0) & timer_good(image, TIMER1)))))))
-}
-
-fn refused(cause: Cause) -> Validity
-    ensures { λ r. ⌜ r ≡ said.refused cause 0 ⌝ }
-{
-    Validity::Refused(Refusal { cause, place: 0 })
-}
-
-// Refusal 1.
-fn validate_memory(memory: usize) -> Validity
-    ensures { λ r. ⌜ r ≡ def.memoryValid memory ⌝ }
-{
-    if memory != MEMORY {
-        return refused(Cause::MemoryLength);
-    }
-    Validity::Good
-}
-
-// Refusals 2 and 3.
-pub fn validate_image(image: &[u8]) -> Validity
-    ensures { λ r. ⌜ r ≡ def.imageValid (now (image .entry)) ⌝ }
-{
-    if image.len() != IMAGE {
-        return refused(Cause::ImageLength);
-    }
-    if good_image(image) {
-        Validity::Good
-    } else {
-        refused(Cause::ImageField)
-    }
-}
-
-// Refusals 1 to 3.
-pub fn validate_machine(memory: usize, image: &[u8]) -> Validity
-    ensures { λ r. ⌜ r ≡ def.machineValid memory (now (image .entry)) ⌝ }
-{
-    let first = validate_memory(memory);
-    let second = validate_image(image);
-    refusal::and_then(first, second)
 }

@@ -1,11 +1,11 @@
--- The lines of a listing, for every report: behind the line with the number of runs, line k + 1 is the line of report k, and there is no other.
+-- The lines of a listing, for every report, and the words in them.
 -- Assumes nothing.
 use mathlib.Core.Bool.{Bool, not, true, _&&_}
 use mathlib.Core.List.{List, [], append-assoc, flatten, map, _++_, _∷_}
 use mathlib.Core.Path.{ap, refl, sym, _∙_, _≡_}
 use Prim.Native.Nat.{suc, zero, ℕ, _%_, _*_, _+_, _-_, _/_, _<_}
 use native.Mathlib.Omega.{arith}
-use borrow.Author.Tests.{lt-ltb, ne-eqb, not-true}
+use borrow.Author.Tests.{ne-eqb, not-true}
 use lib.Dec.{eqb, ltb}
 use lib.ListN.{drop, getD, length, length-append, take}
 use lib.Seq.{drop-at, drop-drop, getD-take, take-at}
@@ -14,7 +14,16 @@ use Rattle.endian.specs.Bytes.{wordFrom}
 use Rattle.word.specs.Cases.{both, either, rest, this}
 use Rattle.listing.specs.Listing.{countsText, endingText, lineOf, linesOf, listingOf, newline, numberText, outcomeText, runsText, space}
 use Rattle.text.specs.Text.{ascii, decimalOf, digitOf, hexOf}
-use Rattle.lines.specs.Statement.{Reports, firstLine, isNewline, laterLines, reportAt, textLine}
+use Rattle.machine.specs.Answers.{endingEntered}
+use Rattle.machine.specs.Run.{runOf}
+use Rattle.machine.specs.declared.Ending.{Ending}
+use Rattle.machine.specs.declared.Ending.the-variants as ending
+use Rattle.machine.specs.declared.State.{State}
+use Rattle.readers.specs.Shown.{run-number}
+use Rattle.refusal.specs.declared.Validity.the-variants.{Good}
+use Rattle.roundtrip.specs.Statement.{GoodState}
+use Rattle.lines.specs.Statement.{EndingText, HeadLine, LastLine, ListingOfReports, NumberText, Reports, RunLine}
+use Rattle.lines.specs.Statement.{firstLine, isNewline, laterLines, numberWord, runs, textLine}
 
 -- ---- a line has one newline, at its end
 
@@ -160,32 +169,24 @@ no-more (suc n) r =
 
 -- ---- the listing
 
--- an answer that is no refusal, and the report that it filled
-module _ (answer : ℕ) (report : List ℕ) (ran : answer < 4294967296) where
-  abbrev pub runs : ℕ
-  runs = length report / reportSize
+listed : (report : List ℕ) → listingOf Good report ≡ runsText (runs report) ++ linesOf (runs report) report
+unfolding listingOf
+listed report = refl
 
-  listed : listingOf answer report ≡ runsText runs ++ linesOf runs report
-  unfolding listingOf
-  listed = rw (lt-ltb answer 4294967296 ran)
+behind : (report : List ℕ) → laterLines (listingOf Good report) ≡ linesOf (runs report) report
+behind report = ap laterLines (listed report) ∙ later-lines (linesOf (runs report) report) (runs-is-line (runs report))
 
-  behind : laterLines (listingOf answer report) ≡ linesOf runs report
-  behind = ap laterLines listed ∙ later-lines (linesOf runs report) (runs-is-line runs)
+pub head-line : HeadLine
+unfolding textLine
+head-line report = ap firstLine (listed report) ∙ first-line (linesOf (runs report) report) (runs-is-line (runs report))
 
-  -- `runs N`
-  pub head-line : textLine 0 (listingOf answer report) ≡ runsText runs
-  unfolding textLine
-  head-line = ap firstLine listed ∙ first-line (linesOf runs report) (runs-is-line runs)
+pub run-line : RunLine
+unfolding textLine
+run-line report k h = ap (textLine k) (behind report) ∙ lines-at (runs report) report k h ∙ sym (line-front (drop (reportSize * k) report))
 
-  -- behind it the line of each report, in order
-  pub run-line : (k : ℕ) → k < runs → textLine (suc k) (listingOf answer report) ≡ lineOf (reportAt k report)
-  unfolding textLine
-  run-line k h = ap (textLine k) behind ∙ lines-at runs report k h ∙ sym (line-front (drop (reportSize * k) report))
-
-  -- and no other
-  pub last-line : textLine (suc runs) (listingOf answer report) ≡ []
-  unfolding textLine
-  last-line = ap (textLine runs) behind ∙ no-more runs report
+pub last-line : LastLine
+unfolding textLine
+last-line report = ap (textLine (runs report)) (behind report) ∙ no-more (runs report) report
 
 -- ---- the listing of a list of reports
 
@@ -202,10 +203,30 @@ all-lines (r ∷ rs) h =
     sym (line-front (r ++ flatten rs)) ∙ ap lineOf (take-at r (flatten rs) reportSize (h .0)) in
     rw (front, drop-at r (flatten rs) reportSize (h .0), all-lines rs (h .1))
 
--- the head line, and then the line of each report
-pub listing-of-reports :
-    (answer : ℕ) (rs : List (List ℕ)) → answer < 4294967296 → Reports rs
-    → listingOf answer (flatten rs) ≡ runsText (length rs) ++ flatten (map lineOf rs)
-listing-of-reports answer rs ran h =
-    let count : length (flatten rs) / reportSize ≡ length rs = omega (arith, all-long rs h) in
-    listed answer (flatten rs) ran ∙ rw (count, all-lines rs h)
+pub listing-of-reports : ListingOfReports
+listing-of-reports rs h =
+    let count : runs (flatten rs) ≡ length rs = omega (arith, all-long rs h) in
+    listed (flatten rs) ∙ rw (count, all-lines rs h)
+
+-- ---- the words of a line
+
+pub ending-text : EndingText
+unfolding endingText
+ending-text ending.Spent = refl
+ending-text (ending.Entered number pc flag) = refl
+ending-text ending.Halted = refl
+ending-text ending.Lost = refl
+
+module _ (n : ℕ) (st : State) (m : List ℕ) (g : GoodState st) where
+  number-by : (x : Ending) → (runOf n st m) .ending ≡ x → numberText (endingEntered x) ≡ numberWord x
+  unfolding numberText
+  number-by ending.Spent e = refl
+  number-by (ending.Entered number pc flag) e = rw (ne-eqb number 255 (λ q. omega (arith, run-number n st m number pc flag g e)))
+  number-by ending.Halted e = refl
+  number-by ending.Lost e = refl
+
+  word-of-number : let x : Ending = (runOf n st m) .ending in numberText (endingEntered x) ≡ numberWord x
+  word-of-number = number-by ((runOf n st m) .ending) refl
+
+pub number-text : NumberText
+number-text = word-of-number

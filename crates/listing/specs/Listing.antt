@@ -3,11 +3,15 @@
 -- Assumes nothing.
 use mathlib.Core.Bool.{cond}
 use mathlib.Core.List.{List, [], _++_}
-use Prim.Native.Nat.{suc, zero, ℕ, _%_, _*_, _+_, _/_}
-use lib.Dec.{eqb, ltb}
+use Prim.Native.Nat.{suc, zero, ℕ, _*_, _+_, _/_}
+use lib.Dec.{eqb}
 use lib.ListN.{drop, getD, length, take}
 use Rattle.report.specs.Layout.{endingAt, flagAt, numberAt, pcAt, reportSize, statesAt, stepsAt}
 use Rattle.endian.specs.Bytes.{wordFrom}
+use Rattle.refusal.specs.Refusal.{causeNumber}
+use Rattle.refusal.specs.declared.Refusal.{Refusal}
+use Rattle.refusal.specs.declared.Validity.{Validity}
+use Rattle.refusal.specs.declared.Validity.the-variants.{Good, Refused}
 use Rattle.text.specs.Text.{ascii, decimalOf, hexOf}
 
 abbrev pub space : List ℕ
@@ -55,12 +59,10 @@ runsText n = ascii "runs " ++ (decimalOf 20 n ++ newline)
 unfoldable pub refusedText : ℕ → ℕ → List ℕ
 refusedText n p = ascii "refused " ++ (decimalOf 10 n ++ (space ++ (decimalOf 10 p ++ newline)))
 
--- the listing of a call's answer (a refusal × 2^32 + P, or no refusal) and of the part of the report that it filled
-unfoldable pub listingOf : ℕ → List ℕ → List ℕ
-listingOf answer report =
-    cond (ltb answer 4294967296)
-    (runsText (length report / reportSize) ++ linesOf (length report / reportSize) report)
-    (refusedText (answer / 4294967296) (answer % 4294967296))
+-- the listing of a card, by what the tests of its call say and the part of the report that it filled
+unfoldable pub listingOf : Validity → List ℕ → List ℕ
+listingOf (Refused r) report = refusedText (causeNumber (r .cause)) (r .place)
+listingOf Good report = runsText (length report / reportSize) ++ linesOf (length report / reportSize) report
 
 -- a text written over the front of a buffer, and cut where the buffer ends
 abbrev pub over : List ℕ → List ℕ → List ℕ

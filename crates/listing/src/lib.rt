@@ -6,6 +6,7 @@ ghost use Rattle.report.specs.Layout.{reportSize};
 ghost use Rattle.listing.specs.Listing as def;
 ghost use Rattle.text.specs.Written.{WroteText};
 use line::put_line;
+use refusal::Validity;
 use report::REPORT;
 use text::put;
 use text::put_decimal;
@@ -48,16 +49,20 @@ fn put_refused(text: &mut [u8], number: u64, place: u64) -> usize
     put(text, at, b'\n')
 }
 
-// The listing of a card's answer and of the part of the report that it filled, written to the front of `text` and cut where that ends.
+// The listing of a card by what its call's tests say and by the part of the report that it filled, written to the front of `text` and cut where that ends.
 // Answers how many bytes were written.
-pub fn write_listing(answer: u64, report: &[u8], text: &mut [u8]) -> usize
-    ensures count { λ r. ⌜ r ≡ min (length (def.listingOf answer (now (report .entry)))) (length (now (text .entry))) ⌝ }
-    ensures text { λ _. ⌜ now (text .exit) ≡ def.over (now (text .entry)) (def.listingOf answer (now (report .entry))) ⌝ }
+pub fn write_listing(validity: Validity, report: &[u8], text: &mut [u8]) -> usize
+    ensures count { λ r. ⌜ r ≡ min (length (def.listingOf validity (now (report .entry)))) (length (now (text .entry))) ⌝ }
+    ensures text { λ _. ⌜ now (text .exit) ≡ def.over (now (text .entry)) (def.listingOf validity (now (report .entry))) ⌝ }
 {
-    if answer < 4294967296 {
-        let at = put_runs(text, (report.len() / REPORT) as u64);
-        put_lines(text, at, report)
-    } else {
-        put_refused(text, answer / 4294967296, answer % 4294967296)
+    match validity {
+        Validity::Refused(refusal) => {
+            let cause = refusal.cause;
+            put_refused(text, refusal::number_of(cause) as u64, refusal.place as u64)
+        }
+        Validity::Good => {
+            let at = put_runs(text, (report.len() / REPORT) as u64);
+            put_lines(text, at, report)
+        }
     }
 }

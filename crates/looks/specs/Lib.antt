@@ -1,3 +1,5 @@
 pub mod Statement
+pub mod Stopped
+pub mod Stops
 pub mod Theorem
 pub mod Worked

@@ -3,7 +3,7 @@
 use mathlib.Core.List.{List}
 use mathlib.Core.Logic.{_⊎_, ⊎-elim}
 use mathlib.Core.Path.{_≡_, ap, refl, sym, _∙_}
-use Prim.Native.Nat.{ℕ, _+_, _≤_}
+use Prim.Native.Nat.{ℕ, suc, zero, _+_, _≤_}
 use native.Mathlib.Omega.{arith}
 use lib.ListN.{getD, length}
 use Rattle.calls.specs.Statement as isolated
@@ -12,9 +12,9 @@ use Rattle.direct.specs.Call.{ranCall, runCall}
 use Rattle.fault.specs.declared.FaultRecord.{FaultRecord}
 use Rattle.image.specs.Decode.{stateFrom}
 use Rattle.image.specs.Image.{imageOf}
-use Rattle.layout.specs.Laws.{ImageGood, MachineGood, image-good, image-passes}
+use Rattle.call.specs.Passed.{ImageGood, MachineGood, Passed, image-good, image-passes, passed, passes}
 use Rattle.layout.specs.Layout.{causeAt, missedAt, violationAt}
-use Rattle.layout.specs.Valid.{imageValid}
+use Rattle.call.specs.Valid.{imageValid, runValid}
 use Rattle.look.specs.Call.{faultCall, faultWord}
 use Rattle.machine.specs.Answers.{endingEntered, endingNumber}
 use Rattle.machine.specs.Run.{Ran, runOf}
@@ -25,38 +25,35 @@ use Rattle.machine.specs.declared.State.{State}
 use Rattle.readers.specs.Between.{look-within}
 use Rattle.readers.specs.Shown.{run-shows}
 use Rattle.readers.specs.Statement.{lookedBetween}
-use Rattle.refusal.specs.Call.{Call, imageCalled, unlessRefused}
+use Rattle.call.specs.Call.{Call, Called, buffers}
+use Rattle.call.specs.Laws.{by-tests, good-does}
+use Rattle.call.specs.declared.Answer.{Answer}
+use Rattle.call.specs.declared.Answer.the-variants.{Done}
 use Rattle.refusal.specs.declared.Validity.{Validity}
 use Rattle.refusal.specs.declared.Validity.the-variants.{Good, Refused}
 use Rattle.report.specs.Layout.{reportSize}
-use Rattle.report.specs.Report.{reportOf}
+use Rattle.report.specs.Report.{flagShown, pcShown, reportOf}
 use Rattle.roundtrip.specs.Good.{good-encodes, image-long}
 use Rattle.roundtrip.specs.Ranged.{decoded, image-bytes, ranged-decoded}
 use Rattle.roundtrip.specs.Runs.{run-memory-long, run-sound, sound-decoded}
 use Rattle.roundtrip.specs.Images.{encoded}
 use Rattle.roundtrip.specs.Statement.{Byte, Bytes, Sound, Word}
-use Rattle.view.specs.Call.{runValid}
-use Rattle.view.specs.Valid.{Passed, passed, passes}
 use Rattle.looks.specs.Statement.{AsOne, CallShows, CallsBetween, CallsWithin, Given, IsolatedLooks, LookAfter, LookImage, LookKeeps, LookParts, Parts, lookedCalls, recordIn}
 
 -- ---- one look
 
-kept-by : (v : Validity) (b : List ℕ) (answer : ℕ) → (unlessRefused v (imageCalled b) (imageCalled b answer)) .image ≡ b
-kept-by Good b answer = refl
-kept-by (Refused r) b answer = refl
-
 pub look-keeps : LookKeeps
 unfolding faultCall
-look-keeps b = kept-by (imageValid b) b _
+look-keeps b = by-tests b _ (λ (c : Called Answer (List ℕ)). c .lent ≡ b) (imageValid b) (λ r e. refl) (λ e. refl)
 
 -- a look that passes its tests, by the bytes of the image
-look-bytes : (b : List ℕ) → imageValid b ≡ Good → (faultCall b) .answer ≡ faultWord (recordIn b)
+look-bytes : (b : List ℕ) → imageValid b ≡ Good → (faultCall b) .answer ≡ Done (faultWord (recordIn b))
 unfolding faultCall stateFrom
 look-bytes b e = rw e
 
 -- a record whose numbers fit can be read back
-parts-of : (r : FaultRecord) → Byte (r .cause) → Byte (r .missed) → Word (r .violation) → Parts r (faultWord r)
-parts-of r c m v = record { small = omega arith; cause = omega arith; missed = omega arith; violation = omega arith }
+parts-of : (r : FaultRecord) → Byte (r .cause) → Byte (r .missed) → Word (r .violation) → Parts r (Done (faultWord r))
+parts-of r c m v = record { number = faultWord r; done = refl; small = omega arith; cause = omega arith; missed = omega arith; violation = omega arith }
 
 pub look-parts : LookParts
 unfolding stateFrom
@@ -72,14 +69,14 @@ module _ (m b : List ℕ) (n : ℕ) (rep : List ℕ) (g : Given m b rep) where
   abbrev done : Ran
   done = runOf n (stateFrom b) m
 
-  call-is : runCall m b n rep ≡ ranCall done rep
+  pub call-is : runCall m b n rep ≡ ranCall done rep
   unfolding runCall
-  call-is = rw (g .passed)
+  call-is = good-does (buffers m b rep) _ _ (g .passed)
 
   tested : Passed (length m) b (length rep)
   tested = passed (length m) b (length rep) (g .passed)
 
-  start : Sound (stateFrom b)
+  pub start : Sound (stateFrom b)
   start = sound-decoded b (g .imageBytes) (tested .machine .image .fields)
 
   left : Sound (done .state) × Bytes (done .memory)
@@ -106,25 +103,46 @@ module _ (m b : List ℕ) (n : ℕ) (rep : List ℕ) (g : Given m b rep) where
   back : stateFrom (imageOf (done .state)) ≡ done .state
   back = decoded (done .state) (left .0 .good) (left .0 .ranged)
 
-  look-left : (faultCall ((runCall m b n rep) .image)) .answer ≡ faultWord (done .state .fault)
+  look-left : (faultCall ((runCall m b n rep) .lent .image)) .answer ≡ Done (faultWord (done .state .fault))
   unfolding faultCall
   look-left = rw (call-is, left-passes, back)
 
+  -- its answer has the parts of the record
+  pub left-parts : Parts (done .state .fault) ((faultCall ((runCall m b n rep) .lent .image)) .answer)
+  left-parts =
+      let s : Sound (done .state) = left .0 in
+      let cause : Byte (done .state .fault .cause) = omega (arith, s .good .causes) in
+      rw look-left (parts-of (done .state .fault) cause (s .ranged .page) (s .ranged .refused))
+
 pub look-after : LookAfter
 look-after = look-left
+
+-- ---- the ending, by the report's bytes
+
+-- the ending of these numbers, with the PC and the FLAG that were saved
+abbrev pub endingFrom : ℕ → ℕ → ℕ → ℕ → Ending
+endingFrom zero number pc flag = ending.Spent
+endingFrom (suc zero) number pc flag = ending.Entered number pc flag
+endingFrom (suc (suc zero)) number pc flag = ending.Halted
+endingFrom (suc (suc (suc k))) number pc flag = ending.Lost
+
+numbered : (x : Ending) → x ≡ endingFrom (endingNumber x) (endingEntered x) (pcShown x 0) (flagShown x 0)
+numbered ending.Spent = refl
+numbered (ending.Entered number pc flag) = refl
+numbered ending.Halted = refl
+numbered ending.Lost = refl
+
+pub ending-told :
+    (x : Ending) (way number : ℕ) → endingNumber x ≡ way → endingEntered x ≡ number
+    → x ≡ endingFrom way number (pcShown x 0) (flagShown x 0)
+ending-told x way number e f = rw (← e, ← f) (numbered x)
 
 -- ---- a look between two calls
 
 pub calls-between : CallsBetween
 calls-between m b n k rep rep′ =
     let c : Call = runCall m b n rep in
-    ap (λ (image : List ℕ). runCall (c .memory) image k rep′) (look-keeps (c .image))
-
-spent-by : (x : Ending) → endingNumber x ≡ 0 → x ≡ ending.Spent
-spent-by ending.Spent e = refl
-spent-by (ending.Entered number pc flag) e = absurd (omega arith)
-spent-by ending.Halted e = absurd (omega arith)
-spent-by ending.Lost e = absurd (omega arith)
+    ap (λ (image : List ℕ). runCall (c .lent .memory) image k rep′) (look-keeps (c .lent .image))
 
 module _ (m b : List ℕ) (n k : ℕ) (rep rep′ : List ℕ) (g : Given m b rep) (room : reportSize ≤ length rep′) where
   -- the second run, on what the first and the look left
@@ -145,7 +163,7 @@ module _ (m b : List ℕ) (n k : ℕ) (rep rep′ : List ℕ) (g : Given m b rep
       → AsOne (runCall m b (n + k) rep) (lookedCalls m b n k rep rep′) n ((runOf n (stateFrom b) m) .states) (lookedBetween n k (stateFrom b) m)
       rep rep′
   within e =
-      rw (whole-is (spent-by ((runOf n (stateFrom b) m) .ending) e), last-is)
+      rw (whole-is (ending-told ((runOf n (stateFrom b) m) .ending) 0 _ e refl), last-is)
       (record { answer = refl; memory = refl; image = refl; report = refl; lastReport = refl })
 
 pub calls-within : CallsWithin
@@ -154,37 +172,23 @@ calls-within m b n k rep rep′ g room e = within m b n k rep rep′ g room (rw 
 
 -- ---- a look after an entry with 11
 
--- the PC and the FLAG that were saved
-record EnteredEleven (x : Ending) : Type 0 where
-  saved : ℕ
-  flag : ℕ
-  is : x ≡ ending.Entered 11 saved flag
-
-entered-by : (x : Ending) → endingNumber x ≡ 1 → endingEntered x ≡ 11 → EnteredEleven x
-entered-by ending.Spent e f = absurd (omega arith)
-entered-by (ending.Entered number pc flag) e f = record { saved = pc; flag = flag; is = rw f }
-entered-by ending.Halted e f = absurd (omega arith)
-entered-by ending.Lost e f = absurd (omega arith)
-
 pub call-shows : CallShows
 unfolding reportOf
 call-shows m b n rep g e f =
     let r : Ran = runOf n (stateFrom b) m in
-    let x : EnteredEleven (r .ending) = entered-by (r .ending) (rw (call-is m b n rep g) at e) (rw (call-is m b n rep g) at f) in
-    let s : Sound (r .state) = left m b n rep g .0 in
-    let cause : Byte (r .state .fault .cause) = omega (arith, s .good .causes) in
+    let entered = ending-told (r .ending) 1 11 (rw (call-is m b n rep g) at e) (rw (call-is m b n rep g) at f) in
     record {
       given = r .state .fault;
-      parts = rw (look-after m b n rep g) (parts-of (r .state .fault) cause (s .ranged .page) (s .ranged .refused));
-      shows = run-shows n (stateFrom b) m (x .saved) (x .flag) (start m b n rep g .good) (x .is);
+      parts = left-parts m b n rep g;
+      shows = run-shows n (stateFrom b) m (pcShown (r .ending) 0) (flagShown (r .ending) 0) (start m b n rep g .good) entered;
     }
 
 -- ---- demand 3
 
 -- the bytes of the record are not PC's
 not-pc :
-    (c c′ : Call) (k : ℕ) → (getD (c .image) k 0 ≡ getD (c′ .image) k 0) ⊎ (isolated.Enters c × isolated.PcByte k) → violationAt ≤ k
-    → getD (c .image) k 0 ≡ getD (c′ .image) k 0
+    (c c′ : Call) (k : ℕ) → (getD (c .lent .image) k 0 ≡ getD (c′ .lent .image) k 0) ⊎ (isolated.Enters c × isolated.PcByte k) → violationAt ≤ k
+    → getD (c .lent .image) k 0 ≡ getD (c′ .lent .image) k 0
 not-pc c c′ k h l = ⊎-elim (λ e. e) (λ p. absurd (⊎-elim (λ e. omega arith) (λ e. omega arith) (p .1))) h
 
 module _ (m m′ b : List ℕ) (n : ℕ) (rep : List ℕ) (g : isolated.Given m m′ b) where
@@ -200,20 +204,20 @@ module _ (m m′ b : List ℕ) (n : ℕ) (rep : List ℕ) (g : isolated.Given m 
   both : isolated.Together m m′ b rep c c′
   both = isolated-calls m m′ b n rep long
 
-  passed-alike : runValid (length m) b (length rep) ≡ Good → (faultCall (c .image)) .answer ≡ (faultCall (c′ .image)) .answer
+  passed-alike : runValid (length m) b (length rep) ≡ Good → (faultCall (c .lent .image)) .answer ≡ (faultCall (c′ .lent .image)) .answer
   passed-alike e =
       let given : Given m b rep = record { memoryBytes = g .memoryBytes; imageBytes = g .imageBytes; passed = e } in
       let given′ : Given m′ b rep = record { memoryBytes = g .memoryBytes′; imageBytes = g .imageBytes; passed = rw (← long) e } in
-      let same : (k : ℕ) → violationAt ≤ k → getD (c .image) k 0 ≡ getD (c′ .image) k 0 = λ k. not-pc c c′ k (both .passed e g .image k) in
-      look-bytes (c .image) (rw (call-is m b n rep given) (left-passes m b n rep given))
+      let same : (k : ℕ) → violationAt ≤ k → getD (c .lent .image) k 0 ≡ getD (c′ .lent .image) k 0 = λ k. not-pc c c′ k (both .passed e g .image k) in
+      look-bytes (c .lent .image) (rw (call-is m b n rep given) (left-passes m b n rep given))
       ∙ rw (same causeAt (omega arith), same missedAt (omega arith), same violationAt (omega arith), same (violationAt + 1) (omega arith))
-      (sym (look-bytes (c′ .image) (rw (call-is m′ b n rep given′) (left-passes m′ b n rep given′))))
+      (sym (look-bytes (c′ .lent .image) (rw (call-is m′ b n rep given′) (left-passes m′ b n rep given′))))
 
-  alike-by : (v : Validity) → runValid (length m) b (length rep) ≡ v → (faultCall (c .image)) .answer ≡ (faultCall (c′ .image)) .answer
+  alike-by : (v : Validity) → runValid (length m) b (length rep) ≡ v → (faultCall (c .lent .image)) .answer ≡ (faultCall (c′ .lent .image)) .answer
   alike-by Good e = passed-alike e
   alike-by (Refused r) e = let refused = both .refused r e in rw (refused .0, refused .1)
 
-  looks-alike : (faultCall (c .image)) .answer ≡ (faultCall (c′ .image)) .answer
+  looks-alike : (faultCall (c .lent .image)) .answer ≡ (faultCall (c′ .lent .image)) .answer
   looks-alike = alike-by (runValid (length m) b (length rep)) refl
 
 pub isolated-looks : IsolatedLooks

@@ -15,7 +15,8 @@ use Rattle.image.specs.Decode.{conditionFrom, stateFrom}
 use Rattle.image.specs.Image.{imageOf}
 use Rattle.layout.specs.Entries.{entryBytes}
 use Rattle.layout.specs.Layout.{imageSize, mmuAt, pcAt, regsAt, sspAt, tlbAt}
-use Rattle.layout.specs.Valid.{allZeros, controlGood, countGood, flagGood, goodImage, imageValid, memoryValid, pendingGood, timerGood, zerosGood}
+use Rattle.layout.specs.Valid.{allZeros, controlGood, countGood, flagGood, goodImage, pendingGood, timerGood, zerosGood}
+use Rattle.call.specs.Valid.{imageValid, memoryValid, reportFits}
 use Rattle.look.specs.Call.{faultCall}
 use Rattle.machine.specs.Enter.{enterOf}
 use Rattle.machine.specs.Execute.{afterOperation, bodyOf, eventOf}
@@ -28,8 +29,8 @@ use Rattle.memory.specs.Memory.{stored}
 use Rattle.mmu.specs.Access.{accessOf, alignedAccess, byEntry, byTlb}
 use Rattle.mmu.specs.Lookup.{lookupFrom, lookupOf}
 use Rattle.plan.specs.End.{endOf}
-use Rattle.refusal.specs.Call.{Call}
-use Rattle.refusal.specs.Refusal.{reportFits}
+use Rattle.call.specs.Call.{Call}
+use Rattle.call.specs.declared.Answer.the-variants.{Done}
 use Rattle.report.specs.Layout.{numberAt, reportSize}
 use Rattle.report.specs.Report.{reportOf}
 use Rattle.status.specs.Flag.{flagWord}
@@ -67,22 +68,22 @@ fault = runCall memory image 9 report
 
 -- the kernel's first IN, and its second, each on what the call before it left
 unfoldable pub firstIn : Call
-firstIn = runCall (fault .memory) (fault .image) 1 report
+firstIn = runCall (fault .lent .memory) (fault .lent .image) 1 report
 
 unfoldable pub secondIn : Call
-secondIn = runCall (firstIn .memory) (firstIn .image) 1 report
+secondIn = runCall (firstIn .lent .memory) (firstIn .lent .image) 1 report
 
 pub record Looks : Type 0 where
   -- the report of the program's run: entered with 11
-  pub number : byteFrom (fault .report) numberAt ≡ 11
+  pub number : byteFrom (fault .lent .report) numberAt ≡ 11
   -- the look then: cause 1, missed page 0, violation address 1210h
-  pub shown : (faultCall (fault .image)) .answer ≡ 0x01001210
+  pub shown : (faultCall (fault .lent .image)) .answer ≡ Done 0x01001210
   -- the kernel's first IN reads that cause, to G0
-  pub read : wordFrom (firstIn .image) regsAt ≡ 1
+  pub read : wordFrom (firstIn .lent .image) regsAt ≡ 1
   -- the look after it: cause 0, the rest as before
-  pub gone : (faultCall (firstIn .image)) .answer ≡ 0x00001210
+  pub gone : (faultCall (firstIn .lent .image)) .answer ≡ Done 0x00001210
   -- the second IN reads 0, to G2
-  pub readAgain : wordFrom (secondIn .image) (regsAt + 4) ≡ 0
+  pub readAgain : wordFrom (secondIn .lent .image) (regsAt + 4) ≡ 0
 
 pub worked-look : Looks
 unfolding image memory report fault firstIn secondIn faultCall runCall memoryValid imageValid goodImage flagGood pendingGood allZeros zerosGood timerGood

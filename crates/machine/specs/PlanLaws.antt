@@ -14,7 +14,7 @@ use Rattle.decode.specs.declared.Flow.{Flow}
 use Rattle.decode.specs.declared.Flow.the-variants as flow
 use Rattle.decode.specs.declared.Instruction.{Instruction}
 use Rattle.decode.specs.declared.Shape.{Shape}
-use Rattle.plan.specs.End.{endOf, notPermitted, performs, undefinedWord, zeroDivisor}
+use Rattle.plan.specs.End.{endOf, notPermitted, performs, serviceCall, undefinedWord, zeroDivisor}
 use Rattle.machine.specs.Flag.{flagOf}
 use Rattle.machine.specs.Plan.{after, fetched, interrupted, permitted, planFetch, planFirst, planOf, planOperand, planSecond}
 use Rattle.machine.specs.Plan.{planTransfer, planned, throughAccess, translates}
@@ -95,18 +95,19 @@ module _ (m : List ℕ) (Kept : State → Type 0) (Claim : Planned → Type 0) (
 
 -- ---- the last tests
 
--- a trap's number is 12 or above
+-- a trap's number is 12 to 15
 pub end-by :
     (Claim : Plan → Type 0) (x : Ready) → ((pc states : ℕ) → Claim (performs x pc states))
-    → ((number saved : ℕ) → zeroDivisor ≤ number → Claim (Trap number saved)) → (f : Flow) (pc : ℕ) (jumps : Bool) → Claim (endOf f x pc jumps)
+    → ((number saved : ℕ) → zeroDivisor ≤ number → number ≤ serviceCall → Claim (Trap number saved)) → (f : Flow) (pc : ℕ) (jumps : Bool)
+    → Claim (endOf f x pc jumps)
 unfolding endOf
 end-by Claim x go trap flow.Next pc jumps = go _ _
 end-by Claim x go trap flow.Jump pc jumps = either Claim jumps (λ _. go _ _) (λ _. go _ _)
 end-by Claim x go trap flow.Call pc jumps = go _ _
 end-by Claim x go trap flow.Return pc jumps = go _ _
 end-by Claim x go trap flow.Resume pc jumps = go _ _
-end-by Claim x go trap flow.Trap pc jumps = trap _ _ (omega arith)
-end-by Claim x go trap flow.Divide pc jumps = either Claim (eqb (x .source) 0) (λ _. trap _ _ (omega arith)) (λ _. go _ _)
+end-by Claim x go trap flow.Trap pc jumps = trap _ _ (omega arith) (omega arith)
+end-by Claim x go trap flow.Divide pc jumps = either Claim (eqb (x .source) 0) (λ _. trap _ _ (omega arith) (omega arith)) (λ _. go _ _)
 end-by Claim x go trap flow.Shift pc jumps = go _ _
 
 -- ---- the operand's plan
@@ -115,7 +116,7 @@ end-by Claim x go trap flow.Shift pc jumps = go _ _
 pub record Ends (Claim : Plan → Type 0) (code : ℕ) : Type 0 where
   pub performs : (op : Operation) → op .code ≡ code → Claim (Perform op)
   pub fails : (why : Fault) (a : ℕ) → Claim (Violation why a)
-  pub traps : (number saved : ℕ) → zeroDivisor ≤ number → Claim (Trap number saved)
+  pub traps : (number saved : ℕ) → zeroDivisor ≤ number → number ≤ serviceCall → Claim (Trap number saved)
 
 transfer-by :
     (Claim : Plan → Type 0) (t : Transfer) (st : State) (ins : Instruction) → Ends Claim (ins .code) → (held address following : ℕ)

@@ -18,7 +18,8 @@ use Rattle.image.specs.Decode.{conditionFrom, stateFrom}
 use Rattle.layout.specs.Entries.{entryBytes}
 use Rattle.image.specs.Image.{imageOf}
 use Rattle.layout.specs.Layout.{imageSize, mmuAt, pcAt, regsAt, sspAt, tlbAt}
-use Rattle.layout.specs.Valid.{allZeros, controlGood, countGood, flagGood, goodImage, imageValid, memoryValid, pendingGood, timerGood, zerosGood}
+use Rattle.layout.specs.Valid.{allZeros, controlGood, countGood, flagGood, goodImage, pendingGood, timerGood, zerosGood}
+use Rattle.call.specs.Valid.{imageValid, memoryValid, reportFits}
 use Rattle.isolation.specs.Statement.{hasRight, visible}
 use Rattle.machine.specs.Enter.{enterOf}
 use Rattle.machine.specs.Execute.{afterOperation, bodyOf, eventOf}
@@ -35,15 +36,14 @@ use Rattle.transfer.specs.Transfer.{transferOf}
 use Rattle.mmu.specs.Access.{accessOf, alignedAccess, byEntry, byTlb}
 use Rattle.mmu.specs.Lookup.{lookupFrom, lookupOf}
 use Rattle.memory.specs.Memory.{stored}
-use Rattle.refusal.specs.Refusal.{reportFits}
 use Rattle.refusal.specs.declared.Validity.the-variants.{Good}
 use Rattle.report.specs.Layout.{reportSize}
 use Rattle.report.specs.Report.{reportOf}
 use Rattle.roundtrip.specs.Each.{each-set}
 use Rattle.roundtrip.specs.Statement.{Byte, Bytes}
 use Rattle.direct.specs.Call.{runCall}
-use Rattle.refusal.specs.Call.{Call}
-use Rattle.view.specs.Call.{runValid}
+use Rattle.call.specs.Call.{Call}
+use Rattle.call.specs.Valid.{runValid}
 use Rattle.endian.specs.Bytes.{wordBytes, wordFrom}
 use Rattle.word.specs.Cases.{rest, this}
 use Rattle.word.specs.Word.{upper}
@@ -158,16 +158,16 @@ pair allowance = isolated-calls memory memory′ image allowance report (memory-
 -- what the two calls leave with an allowance of 9
 pub record Ends (call call′ : Call) : Type 0 where
   -- SVC enters the kernel with 15, after three steps of 4, 7 and 12 states; the saved PC is 1208h
-  pub report : call .report ≡ 1 ∷ 15 ∷ 0 ∷ 3 ∷ 0 ∷ 0 ∷ 0 ∷ 23 ∷ 0x12 ∷ 0x08 ∷ 0 ∷ 0 ∷ []
-  pub report′ : call′ .report ≡ call .report
+  pub report : call .lent .report ≡ 1 ∷ 15 ∷ 0 ∷ 3 ∷ 0 ∷ 0 ∷ 0 ∷ 23 ∷ 0x12 ∷ 0x08 ∷ 0 ∷ 0 ∷ []
+  pub report′ : call′ .lent .report ≡ call .lent .report
   -- G0 has the following address, G1 the table's word
-  pub following : wordFrom (call .image) regsAt ≡ 0x1202
-  pub following′ : wordFrom (call′ .image) regsAt ≡ 0x1202
-  pub table : wordFrom (call .image) (regsAt + 2) ≡ 0x1234
-  pub table′ : wordFrom (call′ .image) (regsAt + 2) ≡ 0x1234
+  pub following : wordFrom (call .lent .image) regsAt ≡ 0x1202
+  pub following′ : wordFrom (call′ .lent .image) regsAt ≡ 0x1202
+  pub table : wordFrom (call .lent .image) (regsAt + 2) ≡ 0x1234
+  pub table′ : wordFrom (call′ .lent .image) (regsAt + 2) ≡ 0x1234
   -- PC is the handler's address, another in each memory
-  pub handler : wordFrom (call .image) pcAt ≡ 0
-  pub handler′ : wordFrom (call′ .image) pcAt ≡ 0x2000
+  pub handler : wordFrom (call .lent .image) pcAt ≡ 0
+  pub handler′ : wordFrom (call′ .lent .image) pcAt ≡ 0x2000
 
 pub entered : Ends (runCall memory image 9 report) (runCall memory′ image 9 report)
 unfolding image memory memory′ program report runCall memoryValid imageValid goodImage flagGood pendingGood allZeros zerosGood timerGood

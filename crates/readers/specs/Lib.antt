@@ -3,3 +3,5 @@ pub mod Consuming
 pub mod Numbers
 pub mod Shown
 pub mod Statement
+pub mod Stopped
+pub mod Stops

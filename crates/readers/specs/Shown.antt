@@ -1,76 +1,63 @@
--- A look after a kernel entry for fault 11: the entry is that of an access that failed, and the record has its address and its cause bit.
+-- A look after a kernel entry for an access that failed: after 11 the record has its address and its cause bit, after 10 its page.
 -- Assumes nothing.
 use mathlib.Core.List.{List}
 use mathlib.Core.Path.{_≡_, ap, refl, _∙_}
 use Prim.Native.Nat.{ℕ, suc, zero, _<_}
 use native.Mathlib.Omega.{arith}
 use lib.Bits.{bitAnd, bitOr}
-use Rattle.counting.specs.Statement.{Ended}
+use Rattle.counting.specs.Statement.{ByEntry}
 use Rattle.counting.specs.Theorem.{counted}
 use Rattle.fault.specs.Fault.{recordAfter}
 use Rattle.fault.specs.declared.FaultRecord.{FaultRecord}
-use Rattle.machine.specs.Enter.{Outcome, enterOf}
-use Rattle.machine.specs.Fault.{noted}
-use Rattle.machine.specs.Kept.{no-entry}
 use Rattle.machine.specs.Plan.{planOf}
 use Rattle.machine.specs.Run.{iterate, runOf}
-use Rattle.machine.specs.Step.{commit, stepOf}
-use Rattle.machine.specs.StepLaws.{enter-by}
-use Rattle.machine.specs.declared.Ending.{Ending}
+use Rattle.machine.specs.Step.{stepOf}
 use Rattle.machine.specs.declared.Ending.the-variants as ending
-use Rattle.machine.specs.declared.Event.{Event}
 use Rattle.machine.specs.declared.Event.the-variants as event
-use Rattle.machine.specs.declared.Planned.{Planned}
 use Rattle.machine.specs.declared.State.{State}
 use Rattle.mmu.specs.Answers.{causeBit, faultNumber}
 use Rattle.mmu.specs.declared.Fault.{Fault}
 use Rattle.mmu.specs.declared.Fault.the-variants.{Missing, Odd, Refused}
-use Rattle.plan.specs.declared.Plan.{Plan}
-use Rattle.plan.specs.declared.Plan.the-variants.{Interrupt, Perform, Trap, Violation}
+use Rattle.plan.specs.declared.Plan.the-variants.{Violation}
 use Rattle.roundtrip.specs.Statement.{GoodState}
 use Rattle.roundtrip.specs.Steps.{step-good}
-use Rattle.readers.specs.Consuming.{fault-kept}
-use Rattle.readers.specs.Numbers.{Other, plan-other}
-use Rattle.readers.specs.Statement.{LastShows, RunShows, StepShows}
+use Rattle.readers.specs.Numbers.{ByAccess, plan-access, plan-small}
+use Rattle.readers.specs.Statement.{Last, RunShows, Shows, StepShows}
+use Rattle.readers.specs.Stopped.{Misses, RunMisses, RunNumber, StepMisses, Stores}
+use Rattle.readers.specs.Stops.{run-stopped, step-stops}
+
+-- ---- an entry, by its number
+
+iterate-good : (k : ℕ) (st : State) (m : List ℕ) → GoodState st → GoodState ((iterate k st m) .state)
+unfolding iterate
+iterate-good zero st m g = g
+iterate-good (suc k) st m g = iterate-good k ((stepOf st m) .state) ((stepOf st m) .memory) (step-good st m g)
+
+-- what the record shows of a step that entered with a number, from a good state
+abbrev Shown : ℕ → (State → List ℕ → FaultRecord → Type 0) → Type 0
+Shown number Claim =
+    (st : State) (m : List ℕ) (r : FaultRecord) (saved flag : ℕ) → GoodState st → Stores (ending.Entered number saved flag) st m r
+    → Claim st m r
+
+-- it shows after the step, and after a run whose last step it was
+module _ (number : ℕ) (Claim : State → List ℕ → FaultRecord → Type 0) (shown : Shown number Claim) where
+  step-by :
+      (st : State) (m : List ℕ) (saved flag : ℕ) → GoodState st → (stepOf st m) .event ≡ event.Entered number saved flag
+      → Claim st m ((stepOf st m) .state .fault)
+  step-by st m saved flag g e = shown st m _ saved flag g (rw e at (step-stops st m))
+
+  run-by :
+      (n : ℕ) (st : State) (m : List ℕ) (saved flag : ℕ) → GoodState st → (runOf n st m) .ending ≡ ending.Entered number saved flag
+      → Last Claim st m ((runOf n st m) .steps) ((runOf n st m) .state .fault)
+  run-by n st m saved flag g e =
+      let x : ByEntry st m ((runOf n st m) .steps) (event.Entered number saved flag) = rw e at (counted n st m .ended) in
+      record {
+        last = x .last;
+        counted = x .counted;
+        shows = shown _ _ _ saved flag (iterate-good (x .last) st m g) (rw (e, x .counted) at (run-stopped n st m));
+      }
 
 -- ---- an entry with 11
-
-abbrev numberOf : Event → ℕ
-numberOf (event.Executed cost) = 0
-numberOf (event.Entered number pc flag) = number
-numberOf event.Halted = 0
-numberOf event.Lost = 0
-
-module _ (pc flag : ℕ) (m : List ℕ) where
-  -- of an outcome: the number that is entered with, and the record after it
-  record Enters (number : ℕ) (f : FaultRecord) (o : Outcome) : Type 0 where
-    number-is : o .event ≡ event.Entered 11 pc flag → number ≡ 11
-    fault-is : o .state .fault ≡ f
-
-  enter-enters : (st : State) (pending number saved : ℕ) → Enters number (st .fault) (enterOf st pending number saved m)
-  enter-enters st pending number saved =
-      enter-by (Enters number (st .fault)) st pending number saved m
-      (record { number-is = λ e. let z : _≡_ {A = ℕ} 0 11 = ap numberOf e in absurd (omega arith); fault-is = refl })
-      (record { number-is = λ e. ap numberOf e; fault-is = refl })
-
-  -- what a plan is that is carried out with such an entry
-  record ByAccess (x : Plan) (before after : FaultRecord) : Type 0 where
-    why : Fault
-    address : ℕ
-    failed : x ≡ Violation why address
-    number : faultNumber why ≡ 11
-    recorded : after ≡ recordAfter why address before
-
-  commit-by :
-      (x : Plan) (st : State) → Other x → let o : Outcome = commit x st m in
-      o .event ≡ event.Entered 11 pc flag → ByAccess x (st .fault) (o .state .fault)
-  unfolding commit
-  commit-by (Interrupt line) st other e = absurd (other (enter-enters st _ _ _ .number-is e))
-  commit-by (Violation why a) st other e =
-      let x = enter-enters (noted why a st) (st .pending) (faultNumber why) (st .pc) in
-      record { why = why; address = a; failed = refl; number = x .number-is e; recorded = x .fault-is }
-  commit-by (Trap number saved) st other e = absurd (other (enter-enters st _ _ _ .number-is e))
-  commit-by (Perform op) st other e = absurd (no-entry op 11 pc flag e)
 
 -- what holds of each cause
 by-cause : (P : ℕ → Type 0) → P 0 → P 1 → P 2 → P 3 → (c : ℕ) → c < 4 → P c
@@ -97,50 +84,51 @@ recorded-eleven Odd a r e = refl
 recorded-eleven Missing a r e = absurd (omega arith)
 recorded-eleven Refused a r e = refl
 
-pub step-shows : StepShows
-unfolding stepOf
-step-shows st m saved flag g e =
-    let p : Planned = planOf st m in
-    let x = commit-by saved flag m (p .plan) (p .state) (plan-other st m (g .lines)) e in
-    rw (x .recorded, fault-kept st m, recorded-eleven (x .why) (x .address) (st .fault) (x .number))
+shows : Shown 11 Shows
+shows st m r saved flag g s =
+    let x : ByAccess 11 ((planOf st m) .plan) = plan-access 11 (omega arith) (omega arith) st m (g .lines) (s .plan) in
+    rw (s .stored, x .failed, recorded-eleven (x .why) (x .address) (st .fault) (x .number-is))
     (record {
       why = x .why;
       address = x .address;
       failed = x .failed;
-      number = x .number;
+      number = x .number-is;
       violation = refl;
       bit = added (x .why) (st .fault .cause) (g .causes);
       cause = refl;
       missed = refl;
     })
 
--- ---- the last step of a run
-
--- one step more
-iterate-more :
-    (k : ℕ) (st : State) (m : List ℕ)
-    → (iterate (suc k) st m) .state ≡ (stepOf ((iterate k st m) .state) ((iterate k st m) .memory)) .state
-unfolding iterate
-iterate-more zero st m = refl
-iterate-more (suc k) st m = iterate-more k ((stepOf st m) .state) ((stepOf st m) .memory)
-
-iterate-good : (k : ℕ) (st : State) (m : List ℕ) → GoodState st → GoodState ((iterate k st m) .state)
-unfolding iterate
-iterate-good zero st m g = g
-iterate-good (suc k) st m g = iterate-good k ((stepOf st m) .state) ((stepOf st m) .memory) (step-good st m g)
+pub step-shows : StepShows
+step-shows = step-by 11 Shows shows
 
 pub run-shows : RunShows
-run-shows n st m saved flag g e = by ((runOf n st m) .ending) e (counted n st m .ended)
-  where
-    by :
-        (x : Ending) → x ≡ ending.Entered 11 saved flag → Ended n st m ((runOf n st m) .steps) x
-        → LastShows st m ((runOf n st m) .steps) ((runOf n st m) .state .fault)
-    by x d h =
-        let entry = rw d at h in
-        let last : ℕ = entry .last in
-        let at : State = (iterate last st m) .state in
-        let shows = step-shows at ((iterate last st m) .memory) saved flag (iterate-good last st m g) (entry .event) in
-        let same : (runOf n st m) .state ≡ (stepOf at ((iterate last st m) .memory)) .state =
-        counted n st m .state ∙ ap (λ (k : ℕ). (iterate k st m) .state) (entry .counted) ∙ iterate-more last st m
-        in
-        record { last = last; counted = entry .counted; shows = rw same shows }
+run-shows = run-by 11 Shows shows
+
+-- ---- an entry with 10
+
+is-missing : (why : Fault) → faultNumber why ≡ 10 → why ≡ Missing
+is-missing Odd e = absurd (omega arith)
+is-missing Missing e = refl
+is-missing Refused e = absurd (omega arith)
+
+misses : Shown 10 Misses
+misses st m r saved flag g s =
+    let x : ByAccess 10 ((planOf st m) .plan) = plan-access 10 (omega arith) (omega arith) st m (g .lines) (s .plan) in
+    let failed : (planOf st m) .plan ≡ Violation Missing (x .address) =
+    x .failed ∙ ap (λ (why : Fault). Violation why (x .address)) (is-missing (x .why) (x .number-is))
+    in
+    rw (s .stored, failed) (record { address = x .address; failed = failed; missed = refl; violation = refl; cause = refl })
+
+pub step-misses : StepMisses
+step-misses = step-by 10 Misses misses
+
+pub run-misses : RunMisses
+run-misses = run-by 10 Misses misses
+
+-- ---- the number of an entry
+
+pub run-number : RunNumber
+run-number n st m number saved flag g e =
+    run-by number (λ (s : State) (l : List ℕ) (r : FaultRecord). number < 255) (λ s l r saved flag g x. plan-small number s l (g .lines) (x .plan)) n st m
+    saved flag g e .shows

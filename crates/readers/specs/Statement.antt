@@ -102,11 +102,14 @@ StepShows =
     (st : State) (m : List ℕ) (saved flag : ℕ) → GoodState st → (stepOf st m) .event ≡ event.Entered 11 saved flag
     → Shows st m ((lookOf ((stepOf st m) .state)) .given)
 
--- of the last step of a run
-pub record LastShows (st : State) (m : List ℕ) (steps : ℕ) (r : FaultRecord) : Type 0 where
+-- what the record r shows of the last step of a run
+pub record Last (Claim : State → List ℕ → FaultRecord → Type 0) (st : State) (m : List ℕ) (steps : ℕ) (r : FaultRecord) : Type 0 where
   pub last : ℕ
   pub counted : steps ≡ suc last
-  pub shows : Shows ((iterate last st m) .state) ((iterate last st m) .memory) r
+  pub shows : Claim ((iterate last st m) .state) ((iterate last st m) .memory) r
+
+abbrev pub LastShows : State → List ℕ → ℕ → FaultRecord → Type 0
+LastShows = Last Shows
 
 -- `run-shows`: a run that ended by an entry with 11
 abbrev pub RunShows : Type 0

@@ -1,7 +1,7 @@
--- What a turn tells of the machine: on every state whose pages the map gives, the instruction is the machine's.
+-- What a turn tells of the machine: the instruction is the machine's step.
 -- Assumes nothing.
 use mathlib.Core.List.{List}
-use mathlib.Core.Path.{refl, _≡_}
+use mathlib.Core.Path.{refl, _∙_, _≡_}
 use Prim.Native.Nat.{ℕ, _<_}
 use native.Mathlib.Omega.{arith}
 use lib.ListN.{length}
@@ -20,10 +20,12 @@ use Rattle.hot.specs.Tells.{Acts, Added, Tells, Turned, sOf, zOf}
 use Rattle.hot.specs.Tells.{called, compare, compute, divide, done, idled, jumped, load, none, one, operated, passed, popped, pushed, returned, shift, stop, stored}
 use Rattle.hot.specs.declared.Hot.{Hot}
 use Rattle.source.specs.declared.operand.Source.{Source}
-use Rattle.refinement.specs.Statement.{MapOf, hotState, Does}
+use Rattle.refinement.specs.Statement.{InstructionIsStep, MapOf, hotState}
+use Rattle.refinement.specs.Fetch.{begins}
 use Rattle.refinement.specs.Hot.{reg-hot, rx-hot}
 use Rattle.refinement.specs.Operands as operands
 use Rattle.refinement.specs.Operands.{Addressed, Second, Sourced, memory-read}
+use Rattle.refinement.specs.Operations.{Does}
 use Rattle.refinement.specs.Operations.{call-does, compare-does, divide-does, jump-does, load-does, next-does, no-does, pass-does, pop-does, push-does, ret-does, shift-does, store-does}
 use Rattle.refinement.specs.Opens.{opens-call, opens-jump, opens-store}
 use Rattle.refinement.specs.Results.{ByValue, difference-by-value, result-by-value}
@@ -126,8 +128,12 @@ module _ (b : State) {map : List ℕ} (maps : MapOf b map) (rs m : List ℕ) (h 
 
 -- ---- what a turn tells
 
-pub carried :
+told :
     {map rs m : List ℕ} {h : Hot} {w : ℕ} {rs′ m′ : List ℕ} {r : Hot} → Tells map rs m h w rs′ m′ r → (r .cost ≡ 0 → ⊥) → (b : State) → MapOf b map
     → Does b rs h m w rs′ (r .pc) (r .v) (r .c) (sOf r) (zOf r) m′ (r .cost)
-carried (stop z p q) n b maps = absurd (n z)
-carried {rs} {m} {h} {w} (done l k size s t) n b maps = turned b maps rs m h w size t
+told (stop z p q) n b maps = absurd (n z)
+told {rs} {m} {h} {w} (done l k size s t) n b maps = turned b maps rs m h w size t
+
+pub carried : InstructionIsStep
+carried b map rs m h w rs′ m′ r calm maps f t n =
+    begins (hotState b rs h) m (f .at) w calm (access-granted maps (f .placed)) (f .value) ∙ told t n b maps

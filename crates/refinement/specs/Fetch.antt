@@ -10,14 +10,16 @@ use Rattle.decode.specs.Opcode.{costOf, known, opcodeOf}
 use Rattle.decode.specs.declared.Instruction.{Instruction}
 use Rattle.decode.specs.declared.Operand.{Operand}
 use Rattle.decode.specs.declared.Privilege.the-variants.{Anyone}
+use Rattle.machine.specs.Enter.{Outcome}
 use Rattle.machine.specs.Flag.{flagOf}
 use Rattle.transfer.specs.Need.{addressOf, needOf, valueStored}
 use Rattle.machine.specs.Plan.{interrupted, planFetch, planFirst, planOf, planOperand, planSecond, planned, taken, translates}
 use Rattle.plan.specs.End.{endOf}
 use Rattle.machine.specs.Register.{regOf, spOf}
-use Rattle.machine.specs.Step.{stepOf}
+use Rattle.machine.specs.Step.{commit, stepOf}
 use Rattle.transfer.specs.Transfer.{transferOf}
 use Rattle.plan.specs.declared.Ready.{Ready}
+use Rattle.machine.specs.declared.Planned.{Planned}
 use Rattle.machine.specs.declared.State.{State}
 use Rattle.transfer.specs.declared.Transfer.the-variants.{Done}
 use Rattle.mmu.specs.Access.{accessOf, granted}
@@ -27,7 +29,10 @@ use Rattle.mmu.specs.declared.Right.the-variants.{Execute}
 use Rattle.memory.specs.declared.Store.{Store}
 use Rattle.word.specs.Word.{plus, upper}
 use Rattle.word.specs.declared.Width.the-variants.{Word}
-use Rattle.refinement.specs.Statement.{carriedOut}
+
+-- a plan is carried out
+abbrev pub carriedOut : Planned → List ℕ → Outcome
+carriedOut p m = commit (p .plan) (p .state) m
 
 -- an access to a word that is granted at a physical address and leaves the TLB as it is
 abbrev pub Grants : State → Right → ℕ → ℕ → Type 0

@@ -1,6 +1,6 @@
 -- The operation stage: what an instruction does once its operand is known, on hot states.
 -- Assumes nothing.
-use mathlib.Core.Bool.{false, true}
+use mathlib.Core.Bool.{Bool, false, true}
 use mathlib.Core.List.{List}
 use mathlib.Core.Path.{ap, refl, _∙_, _≡_}
 use Prim.Native.Nat.{ℕ, _*_, _+_, _<_}
@@ -46,14 +46,18 @@ use Rattle.jump.specs.Jump.{conditionOf}
 use Rattle.jump.specs.Laws.{undefined-thirteen}
 use Rattle.word.specs.Word.{minus, plus, upper}
 use Rattle.alu.specs.declared.Alu.{Alu}
-use Rattle.refinement.specs.Fetch.{Grants, accessed, defined, one-word, readied}
-use Rattle.refinement.specs.Statement.{carriedOut, did, hot, hotState, Does}
+use Rattle.refinement.specs.Fetch.{Grants, accessed, carriedOut, defined, one-word, readied}
+use Rattle.refinement.specs.Statement.{did, hot, hotState}
 use Rattle.refinement.specs.Hot.{reg-hot, sp-hot, sp-with-hot, with-hot}
 use Rattle.refinement.specs.Operands.{Addressed, Reached, Sourced}
 use Rattle.refinement.specs.Opens.{Opens, opens, opens-compute, opens-load}
 use Rattle.source.specs.Rows.{Computes, add, addCost, adds, and, cmp, div, loadCost, modulo, mul, or, shla, shll, shra, shrl, sub, xor}
 use Rattle.hot.specs.Tells.{sOf, zOf}
 use Rattle.hot.specs.declared.Hot.{Hot}
+
+-- what becomes of the hot state by the first word w: registers, PC, flags, memory, states
+abbrev pub Does : State → List ℕ → Hot → List ℕ → ℕ → List ℕ → ℕ → Bool → Bool → Bool → Bool → List ℕ → ℕ → Type 0
+Does b rs h m w rs′ pc v c s z m′ n = carriedOut (planFirst (firstOf w) (hotState b rs h) m) m ≡ did (hot b rs′ pc v c s z) m′ n
 
 -- the first word w leads with its operand to the instruction
 module _ (st : State) (m : List ℕ) (w : ℕ) {byte code mode cost : ℕ} {field : RdUse} {access : DataAccess} {flow : Flow} where

@@ -1,24 +1,27 @@
--- What it means that an instruction is the machine's: on a state whose registers, PC and arithmetic flags stand beside it, the first word leads to a
--- step that leaves such a state.
+-- What it means that a plain instruction is the machine's: on a state whose registers, PC and arithmetic flags stand beside it, a step of the machine
+-- leaves such a state, with what the instruction has made of them.
 -- Assumes nothing.
-use mathlib.Core.Bool.{Bool}
+use mathlib.Core.Bool.{Bool, false}
 use mathlib.Core.List.{List}
 use mathlib.Core.Path.{_≡_}
 use Prim.Native.Nat.{ℕ}
 use lib.ListN.{getD, take}
-use Rattle.decode.specs.Decode.{firstOf}
 use Rattle.machine.specs.Enter.{Outcome}
-use Rattle.machine.specs.Plan.{planFirst, translates}
+use Rattle.machine.specs.Plan.{interrupted, translates}
 use Rattle.machine.specs.Register.{sspWith, uspWith}
-use Rattle.machine.specs.Step.{commit}
+use Rattle.machine.specs.Step.{stepOf}
 use Rattle.machine.specs.declared.Event.the-variants.{Executed}
-use Rattle.machine.specs.declared.Planned.{Planned}
 use Rattle.machine.specs.declared.State.{State}
+use Rattle.mmu.specs.declared.Right.the-variants.{Execute}
+use Rattle.pages.specs.Accesses.{Reads}
 use Rattle.pages.specs.Maps.{Mapped}
-use Rattle.hot.specs.Tells.{sOf, zOf}
+use Rattle.word.specs.declared.Width.the-variants.{Word}
+use Rattle.hot.specs.Tells.{Tells, sOf, zOf}
 use Rattle.hot.specs.declared.Hot.{Hot}
 
--- the state: register n below 14 is the n-th of a list of 16, SP the 13th
+-- ---- the correspondence
+
+-- the state b with these registers, PC and arithmetic flags: register n below 14 is the n-th of a list of 16, SP the 13th
 abbrev pub hot : State → List ℕ → ℕ → Bool → Bool → Bool → Bool → State
 hot b rs pc v c s z =
     record {
@@ -36,20 +39,24 @@ hot b rs pc v c s z =
       timers = b .timers;
     }
 
+-- the same, with what `Hot` has of them
 abbrev pub hotState : State → List ℕ → Hot → State
 hotState b rs h = hot b rs (h .pc) (h .v) (h .c) (sOf h) (zOf h)
 
--- a map of the pages
+-- the map is one of the state's pages
 abbrev pub MapOf : State → List ℕ → Type 0
 MapOf st map = Mapped (translates st) (st .tlb) map
-
-abbrev pub carriedOut : Planned → List ℕ → Outcome
-carriedOut p m = commit (p .plan) (p .state) m
 
 -- an instruction was carried out in n states
 abbrev pub did : State → List ℕ → ℕ → Outcome
 did st m n = record { state = st; memory = m; event = Executed n }
 
--- what becomes of the hot state by the first word w: registers, PC, flags, memory, states
-abbrev pub Does : State → List ℕ → Hot → List ℕ → ℕ → List ℕ → ℕ → Bool → Bool → Bool → Bool → List ℕ → ℕ → Type 0
-Does b rs h m w rs′ pc v c s z m′ n = carriedOut (planFirst (firstOf w) (hotState b rs h) m) m ≡ did (hot b rs′ pc v c s z) m′ n
+-- ---- the theorem
+
+-- `carried`: an instruction that is carried out as `Hot::turn` promises (`Tells`), its first word w being the one that the map gives at PC, is the
+-- machine's step on every state with this map in which no interrupt is due: the same registers, PC, flags, memory and states, and nothing else changes
+abbrev pub InstructionIsStep : Type 0
+InstructionIsStep =
+    (b : State) (map rs m : List ℕ) (h : Hot) (w : ℕ) (rs′ m′ : List ℕ) (r : Hot) → interrupted b ≡ false → MapOf b map
+    → Reads map m Execute Word (h .pc) w → Tells map rs m h w rs′ m′ r → (r .cost ≡ 0 → ⊥)
+    → stepOf (hotState b rs h) m ≡ did (hotState b rs′ r) m′ (r .cost)

@@ -1,3 +1,2 @@
-pub mod Call
 pub mod Laws
 pub mod Refusal

@@ -1,11 +1,8 @@
 -- Refusals. Document 01, the table "Cause, tested in this order".
 -- Assumes nothing.
-use mathlib.Core.Bool.{cond}
-use Prim.Native.Nat.{ℕ, _*_, _+_}
-use lib.Dec.{leb}
+use Prim.Native.Nat.{ℕ}
 use Rattle.refusal.specs.declared.Cause.{Cause}
 use Rattle.refusal.specs.declared.Cause.the-variants.{CardLength, CommandBeyond, CommandShort, CommandUnknown, ImageField, ImageLength, MemoryLength, ReportLength}
-use Rattle.refusal.specs.declared.Refusal.{Refusal}
 use Rattle.refusal.specs.declared.Validity.{Validity}
 use Rattle.refusal.specs.declared.Validity.the-variants.{Good, Refused}
 
@@ -24,15 +21,7 @@ causeNumber ReportLength = 8
 abbrev pub refused : Cause → ℕ → Validity
 refused cause place = Refused (record { cause = cause; place = place })
 
--- the answer of a call that is refused: the number × 2^32 + P
-abbrev pub answerOf : Refusal → ℕ
-answerOf r = causeNumber (r .cause) * 4294967296 + r .place
-
 -- tests "in this order": the first refusal is the call's
 abbrev pub andThen : Validity → Validity → Validity
 andThen (Refused r) v = Refused r
 andThen Good v = v
-
--- the report: refusal 8
-unfoldable pub reportFits : ℕ → ℕ → Validity
-reportFits long needed = cond (leb needed long) Good (refused ReportLength 0)

@@ -1,9 +1,9 @@
-// Refusals: why a call is refused, and what it then answers.
-mod answer;
+// Refusals: why a call is refused, and tests one after the other.
+mod tests;
 
-pub use answer::and_then;
-pub use answer::answer_of;
-pub use answer::report_fits;
+pub use tests::and_then;
+pub use tests::number_of;
+pub use tests::refused;
 
 // Why a call is refused, in the order of the tests.
 pub enum Cause {

@@ -13,10 +13,8 @@ use Rattle.machine.specs.declared.Condition.the-variants.{Running}
 use Rattle.machine.specs.declared.State.{State}
 use Rattle.mmu.specs.declared.Right.the-variants.{Execute}
 use Rattle.pages.specs.Accesses.{Reads}
-use Rattle.pages.specs.Maps.{access-granted}
 use Rattle.word.specs.declared.Width.the-variants.{Word}
 use Rattle.refinement.specs.Statement.{MapOf, did, hotState}
-use Rattle.refinement.specs.Fetch.{begins}
 use Rattle.hot.specs.Tells.{Tells, stopped}
 use Rattle.refinement.specs.Carried.{carried}
 use Rattle.hot.specs.declared.Hot.{Hot}
@@ -62,11 +60,10 @@ module _ {map rs m : List ℕ} {h : Hot} {steps states : ℕ} {rs′ m′ : List
   pub one-more :
       {w : ℕ} {rs″ m″ : List ℕ} {r : Hot} → Reads map m′ Execute Word (h′ .pc) w → Tells map rs′ m′ h′ w rs″ m″ r → (r .cost ≡ 0 → ⊥)
       → Leads map rs m h (steps + 1) (states + r .cost) rs″ m″ r
-  one-more {w} f t n =
+  one-more {w} {rs″} {m″} {r} f t n =
       record {
         goes = λ b ready maps.
-            more (l .goes b ready maps) (ready .running)
-            (begins (hotState b rs′ h′) m′ (f .at) w (ready .calm) (access-granted maps (f .placed)) (f .value) ∙ carried t n b maps);
+            more (l .goes b ready maps) (ready .running) (carried b map rs′ m′ h′ w rs″ m″ r (ready .calm) maps f t n);
       }
 
   pub no-more :

@@ -11,7 +11,7 @@ use Rattle.pages.specs.Accesses.{Reads}
 use Rattle.word.specs.declared.Width.{Width}
 use Rattle.word.specs.declared.Width.the-variants.{Byte, Word}
 use Rattle.word.specs.Word.{plus}
-use Rattle.source.specs.Fields.{IndexedPlace, RxRead, framePlace, modeOf, shortOf}
+use Rattle.source.specs.Fields.{IndexedPlace, RxRead, framePlace, indexed-place, indexedAddress, modeOf, rx-read, rxValue, shortOf}
 use Rattle.source.specs.Rows.{addCost, below-eight}
 use Rattle.source.specs.declared.operand.Source.{Source}
 
@@ -51,19 +51,19 @@ module _ (rs map m : List ℕ) (pc w next : ℕ) where
     pub direct-named : d < 65536 → Named rs map m pc w 0 d next Word
     direct-named l = by-second n (fetch l)
 
-    pub indexed-named : (a : ℕ) → (a < 65536 → IndexedPlace rs next d w a) → a < 65536 → Named rs map m pc w 1 a next Word
-    indexed-named a place l = by-index n (fetch (place l .below)) (place l)
+    pub indexed-named : (a : ℕ) → a ≡ indexedAddress rs next d w → a < 65536 → Named rs map m pc w 1 a next Word
+    indexed-named a e l = let p = indexed-place e l in by-index n (fetch (p .below)) p
 
   module _ (n : next ≡ plus pc 2) (a : ℕ) where
     pub frame-named : a ≡ framePlace rs w → a < 65536 → Named rs map m pc w 3 a next Word
     frame-named f l = by-frame n f
 
-    module _ (place : a < 65536 → RxRead rs next (w % 16) a) (l : a < 65536) where
+    module _ (e : a ≡ rxValue rs next (w % 16)) (l : a < 65536) where
       pub indirect-named : Named rs map m pc w 6 a next Word
-      indirect-named = by-register n (place l)
+      indirect-named = by-register n (rx-read e l)
 
       pub byte-named : Named rs map m pc w 7 a next Byte
-      byte-named = by-register-byte n (place l)
+      byte-named = by-register-byte n (rx-read e l)
 
   -- ---- values
 
@@ -82,7 +82,7 @@ module _ (rs map m : List ℕ) (pc w next : ℕ) where
       unfolding addCost statesAt eight addStates
       direct-source e read = record { cost = rw e; valued = rw e (read-valued (direct-named n d fetch) read) }
 
-      pub indexed-source : modeOf w ≡ 1 → (a : ℕ) → (a < 65536 → IndexedPlace rs next d w a) → (x < 65536 → Reads map m Read Word a x) → Is 7
+      pub indexed-source : modeOf w ≡ 1 → (a : ℕ) → a ≡ indexedAddress rs next d w → (x < 65536 → Reads map m Read Word a x) → Is 7
       unfolding addCost statesAt eight addStates
       indexed-source e a place read = record { cost = rw e; valued = rw e (read-valued (indexed-named n d fetch a place) read) }
 
@@ -95,18 +95,18 @@ module _ (rs map m : List ℕ) (pc w next : ℕ) where
       unfolding addCost statesAt eight addStates
       frame-source e a f read = record { cost = rw e; valued = rw e (read-valued (frame-named n a f) read) }
 
-      pub register-source : modeOf w ≡ 4 → (x < 65536 → RxRead rs next (w % 16) x) → Is 5
+      pub register-source : modeOf w ≡ 4 → x ≡ rxValue rs next (w % 16) → Is 5
       unfolding addCost statesAt eight addStates
-      register-source e read = record { cost = rw e; valued = rw e (λ l. held n (read l)) }
+      register-source e r = record { cost = rw e; valued = rw e (λ l. held n (rx-read r l)) }
 
       pub short-source : modeOf w ≡ 5 → x ≡ shortOf (rxField w) → Is 4
       unfolding addCost statesAt eight addStates
       short-source e f = record { cost = rw e; valued = rw e (λ l. field n f) }
 
-      pub indirect-source : modeOf w ≡ 6 → (a : ℕ) → (a < 65536 → RxRead rs next (w % 16) a) → (x < 65536 → Reads map m Read Word a x) → Is 6
+      pub indirect-source : modeOf w ≡ 6 → (a : ℕ) → a ≡ rxValue rs next (w % 16) → (x < 65536 → Reads map m Read Word a x) → Is 6
       unfolding addCost statesAt eight addStates
       indirect-source e a place read = record { cost = rw e; valued = rw e (read-valued (indirect-named n a place) read) }
 
-      pub byte-source : modeOf w ≡ 7 → (a : ℕ) → (a < 65536 → RxRead rs next (w % 16) a) → (x < 65536 → Reads map m Read Byte a x) → Is 6
+      pub byte-source : modeOf w ≡ 7 → (a : ℕ) → a ≡ rxValue rs next (w % 16) → (x < 65536 → Reads map m Read Byte a x) → Is 6
       unfolding addCost statesAt eight addStates
       byte-source e a place read = record { cost = rw e; valued = rw e (read-valued (byte-named n a place) read) }

@@ -1,12 +1,13 @@
 // The operand stage: what each mode names, and its value.
 ghost use mathlib.Core.Path.{_≡_};
-ghost use Prim.Native.Nat.{_%_, _<_};
+ghost use Prim.Native.Nat.{_%_};
 ghost use lib.ListN.{length};
 ghost use Rattle.decode.specs.Decode.{rxField};
-ghost use Rattle.source.specs.Fields.{IndexedPlace, shortOf, framePlace};
+ghost use Rattle.source.specs.Fields.{framePlace, indexedAddress, shortOf};
 ghost use Rattle.source.specs.Sources.{SourceIs};
 use crate::registers::FP;
 use crate::registers::rx;
+use crate::registers::wide;
 use decode::frame_offset;
 use pages::NONE;
 use pages::fetch;
@@ -39,7 +40,7 @@ pub fn frame_place(regs: &[u16; 16], w: u16) -> u16
 
 // A displacement plus Rx, `next` being the address of the following instruction.
 pub fn indexed_place(regs: &[u16; 16], next: u16, d: u32, w: u16) -> u32
-    ensures { λ r. ⌜ (r < 65536 → IndexedPlace (now (regs .entry)) next d w r) ⌝ }
+    ensures { λ r. ⌜ r ≡ indexedAddress (now (regs .entry)) next d w ⌝ }
 {
     let x = rx(regs, next, w);
     if NONE <= d {
@@ -48,7 +49,7 @@ pub fn indexed_place(regs: &[u16; 16], next: u16, d: u32, w: u16) -> u32
     if NONE <= x {
         return NONE;
     }
-    (d + x) % 65536
+    wide(plus(d as u16, x as u16))
 }
 
 fn operand(value: u32, next: u16, cost: u32) -> Source

@@ -1,7 +1,7 @@
 // The registers.
 ghost use mathlib.Core.Path.{_≡_};
-ghost use Prim.Native.Nat.{_%_, _<_};
-ghost use Rattle.source.specs.Fields.{RegRead, RxRead};
+ghost use Prim.Native.Nat.{_%_};
+ghost use Rattle.source.specs.Fields.{registerValue, rxValue};
 use pages::NONE;
 
 // The places of FP and of SP among the registers. USP and PC are no places here.
@@ -21,7 +21,7 @@ pub fn wide(x: u16) -> u32
 
 // A register below 14, by the lowest four bits of `n`.
 pub fn register(regs: &[u16; 16], n: u16) -> u32
-    ensures { λ r. ⌜ (r < 65536 → RegRead (now (regs .entry)) (n % 16) r) ⌝ }
+    ensures { λ r. ⌜ r ≡ registerValue (now (regs .entry)) (n % 16) ⌝ }
 {
     let k = (n % 16) as usize;
     if k < USP {
@@ -32,7 +32,7 @@ pub fn register(regs: &[u16; 16], n: u16) -> u32
 
 // Rs or Rx, by the lowest four bits of `w`: a register below 14, with 15 the address of the following instruction, with 14 none.
 pub fn rx(regs: &[u16; 16], next: u16, w: u16) -> u32
-    ensures { λ r. ⌜ (r < 65536 → RxRead (now (regs .entry)) next (w % 16) r) ⌝ }
+    ensures { λ r. ⌜ r ≡ rxValue (now (regs .entry)) next (w % 16) ⌝ }
 {
     let x = register(regs, w);
     if x < NONE {
@@ -41,5 +41,6 @@ pub fn rx(regs: &[u16; 16], next: u16, w: u16) -> u32
     if w % 16 == PC {
         return wide(next);
     }
-    NONE
+    // None.
+    x
 }

@@ -24,17 +24,17 @@ fn list_case(card: &[u8], lacks: usize, absent: usize, high: u8, low: u8, room: 
     image[FLAG + 1] = low;
     let mut report = [0u8; 16380];
     let mut text = [0u8; 65536];
-    let mut answer = 0;
     let memory_len = 65536 - lacks;
     let image_len = IMAGE - absent;
+    let checked = card::validate_card(memory_len, &image[..image_len], card, room);
+    let validity = checked.validity;
     let filled = card::run_card(
         &mut memory[..memory_len],
         &mut image[..image_len],
         card,
         &mut report[..room],
-        &mut answer,
     );
-    let written = listing::write_listing(answer, filled, &mut text);
+    let written = listing::write_listing(validity, filled, &mut text);
     io::write_all(libc::STDOUT_FILENO, &text[..written])
 }
 

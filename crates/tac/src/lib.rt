@@ -1,11 +1,28 @@
 // The interface for C: runs, cards, views and looks on buffers that the caller lends.
 ghost use mathlib.Core.Path.{_≡_};
+ghost use Rattle.call.specs.Call.{buffers, called};
 ghost use Rattle.card.specs.Call.{cardCall};
 ghost use Rattle.direct.specs.Call.{runCall};
 ghost use Rattle.look.specs.Call.{faultCall};
 ghost use Rattle.view.specs.Call.{viewCall};
-ghost use Rattle.refusal.specs.Call.{called, imageCalled};
+ghost use Rattle.tac.specs.Packed as def;
+use call::Answer;
 
+// An answer in one number: a refusal's number × 2^32 + P, or what the call gives.
+fn pack(answer: Answer) -> u64
+    ensures number { λ n. ⌜ n ≡ def.packed answer ⌝ }
+    ensures unpacked { λ n. ⌜ def.Unpacked n answer ⌝ }
+{
+    match answer {
+        Answer::Refused(refusal) => {
+            let cause = refusal.cause;
+            refusal::number_of(cause) as u64 * 0x1_0000_0000 + refusal.place as u64
+        }
+        Answer::Done(given) => given as u64,
+    }
+}
+
+// A run of at most `allowance` steps.
 #[no_mangle]
 pub extern "C" fn tac_run(
     memory: &mut [u8],
@@ -13,11 +30,12 @@ pub extern "C" fn tac_run(
     allowance: u16,
     report: &mut [u8],
 ) -> u64
-    ensures { λ r. ⌜ called (now (memory .exit)) (now (image .exit)) (now (report .exit)) r ≡ runCall (now (memory .entry)) (now (image .entry)) allowance (now (report .entry)) ⌝ }
+    ensures { λ r. ⌜ called r (buffers (now (memory .exit)) (now (image .exit)) (now (report .exit))) ≡ def.packedCall (runCall (now (memory .entry)) (now (image .entry)) allowance (now (report .entry))) ⌝ }
 {
-    direct::run(memory, image, allowance, report)
+    pack(direct::run(memory, image, allowance, report))
 }
 
+// A bench card.
 #[no_mangle]
 pub extern "C" fn tac_card(
     memory: &mut [u8],
@@ -25,21 +43,23 @@ pub extern "C" fn tac_card(
     card: &[u8],
     report: &mut [u8],
 ) -> u64
-    ensures { λ r. ⌜ called (now (memory .exit)) (now (image .exit)) (now (report .exit)) r ≡ cardCall (now (memory .entry)) (now (image .entry)) (now (card .entry)) (now (report .entry)) ⌝ }
+    ensures { λ r. ⌜ called r (buffers (now (memory .exit)) (now (image .exit)) (now (report .exit))) ≡ def.packedCall (cardCall (now (memory .entry)) (now (image .entry)) (now (card .entry)) (now (report .entry))) ⌝ }
 {
-    card::perform(memory, image, card, report)
+    pack(card::perform(memory, image, card, report))
 }
 
+// The report of a run of no step; memory and image are read alone.
 #[no_mangle]
 pub extern "C" fn tac_view(memory: &[u8], image: &[u8], report: &mut [u8]) -> u64
-    ensures { λ r. ⌜ called (now (memory .exit)) (now (image .exit)) (now (report .exit)) r ≡ viewCall (now (memory .entry)) (now (image .entry)) (now (report .entry)) ⌝ }
+    ensures { λ r. ⌜ called r (buffers (now (memory .exit)) (now (image .exit)) (now (report .exit))) ≡ def.packedCall (viewCall (now (memory .entry)) (now (image .entry)) (now (report .entry))) ⌝ }
 {
-    view::view(memory, image, report)
+    pack(view::view(memory, image, report))
 }
 
+// A look at the fault record; the image is read alone.
 #[no_mangle]
 pub extern "C" fn tac_fault(image: &[u8]) -> u64
-    ensures { λ r. ⌜ imageCalled (now (image .exit)) r ≡ faultCall (now (image .entry)) ⌝ }
+    ensures { λ r. ⌜ called r (now (image .exit)) ≡ def.packedCall (faultCall (now (image .entry))) ⌝ }
 {
-    look::look(image)
+    pack(look::look(image))
 }

@@ -5,24 +5,22 @@ use mathlib.Core.List.{List}
 use mathlib.Core.Path.{_≡_, ap, refl, subst, sym, _∙_}
 use Prim.Native.Nat.{ℕ}
 use lib.ListN.{drop, length}
-use Rattle.direct.specs.Call.{ranCall, runCall}
+use Rattle.direct.specs.Call.{runCall}
 use Rattle.endian.specs.Bytes.{wordBytes}
 use Rattle.image.specs.Decode.{stateFrom}
 use Rattle.image.specs.Image.{imageOf, timersBytes}
 use Rattle.layout.specs.Entries.{entryBytes}
-use Rattle.layout.specs.Laws.{ImageGood}
+use Rattle.call.specs.Passed.{ImageGood, passed}
 use Rattle.layout.specs.Layout.{timer0At}
 use Rattle.machine.specs.Run.{runOf}
 use Rattle.machine.specs.declared.State.{State}
-use Rattle.refusal.specs.Call.{called, unlessRefused}
-use Rattle.refusal.specs.declared.Validity.{Validity}
-use Rattle.refusal.specs.declared.Validity.the-variants.{Good, Refused}
+use Rattle.call.specs.Call.{Call, buffers}
+use Rattle.call.specs.Laws.{by-tests}
 use Rattle.roundtrip.specs.Good.{good-decoded, spelled-out, spelledOut}
 use Rattle.roundtrip.specs.Images.{encoded}
 use Rattle.roundtrip.specs.Runs.{run-good}
 use Rattle.roundtrip.specs.Statement.{Bytes, GoodState}
-use Rattle.view.specs.Call.{runValid}
-use Rattle.view.specs.Valid.{passed}
+use Rattle.call.specs.Valid.{runValid}
 use Rattle.times.specs.Statement.{UserCall}
 use Rattle.times.specs.Users.{user-timers}
 
@@ -43,15 +41,11 @@ module _ (m b rep : List ℕ) (n : ℕ) (bytes : Bytes b) (p : (stateFrom b) .fl
       ∙ sym (timers-last (stateFrom b) g)
       ∙ ap (drop timer0At) (encoded b (good .size) bytes (good .fields))
 
-  by-tests :
-      (v : Validity) → runValid (length m) b (length rep) ≡ v
-      → drop timer0At ((unlessRefused v (called m b rep) (ranCall (runOf n (stateFrom b) m) rep)) .image) ≡ drop timer0At b
-  by-tests Good e = run-image (passed (length m) b (length rep) e .machine .image)
-  by-tests (Refused r) e = refl
-
-  user-image : drop timer0At ((runCall m b n rep) .image) ≡ drop timer0At b
+  user-image : drop timer0At ((runCall m b n rep) .lent .image) ≡ drop timer0At b
   unfolding runCall
-  user-image = by-tests (runValid (length m) b (length rep)) refl
+  user-image =
+      by-tests (buffers m b rep) _ (λ (c : Call). drop timer0At (c .lent .image) ≡ drop timer0At b) (runValid (length m) b (length rep)) (λ r e. refl)
+      (λ e. run-image (passed (length m) b (length rep) e .machine .image))
 
 pub user-call : UserCall
 user-call = user-image

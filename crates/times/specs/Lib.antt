@@ -1,7 +1,9 @@
 pub mod Calls
+pub mod CardCalls
 pub mod Cards
 pub mod Lines
 pub mod Milliseconds
+pub mod NoTime
 pub mod Passing
 pub mod Statement
 pub mod Steps

@@ -35,7 +35,7 @@ module _ (lines : ℕ) where
   Lowest (Perform op) = Unit {0}
 
   ends-lowest : (code : ℕ) → Ends Lowest code
-  ends-lowest code = record { performs = λ op e. tt; fails = λ why a. tt; traps = λ number saved l. tt }
+  ends-lowest code = record { performs = λ op e. tt; fails = λ why a. tt; traps = λ number saved l h. tt }
 
   plan-lowest : (st : State) (m : List ℕ) → st .pending ≡ lines → Lowest ((planOf st m) .plan)
   plan-lowest st m e =

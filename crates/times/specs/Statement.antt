@@ -99,4 +99,4 @@ UserTimers =
 abbrev pub UserCall : Type 0
 UserCall =
     (m b rep : List ℕ) (n : ℕ) → Bytes b → (stateFrom b) .flags .p ≡ false → (stateFrom b) .flags .i ≡ false
-    → drop timer0At ((runCall m b n rep) .image) ≡ drop timer0At b
+    → drop timer0At ((runCall m b n rep) .lent .image) ≡ drop timer0At b

@@ -2,12 +2,14 @@
 -- Assumes nothing.
 use mathlib.Core.Bool.{Bool, false, true, false≢true}
 use mathlib.Core.List.{List, [], _∷_}
-use mathlib.Core.Path.{_≡_, ap, refl, _∙_}
+use mathlib.Core.Logic.{_⊎_, inl, inr, ⊎-elim}
+use mathlib.Core.Path.{_≡_, ap, refl, subst, sym, _∙_}
 use Prim.Native.Nat.{ℕ, suc, zero, _<_}
 use native.Mathlib.Omega.{arith}
 use borrow.Author.Tests.{eqb-false, eqb-true}
 use lib.Dec.{eqb, ltb}
 use Rattle.card.specs.Effect.{Effect, effectOf, executeOf}
+use Rattle.command.specs.Card.{isRun}
 use Rattle.command.specs.declared.Command.{Command}
 use Rattle.command.specs.declared.Command.the-variants.{Byte, Entry, Flag, Lines, Mmu, Register, Run, Time}
 use Rattle.counting.specs.Theorem.{counted}
@@ -32,9 +34,10 @@ use Rattle.timer.specs.Port.{afterInAt, afterOutAt, controlPort, firedCleared, 
 use Rattle.timer.specs.Port.{timer0Port, timer1Port, timersAfterIn, timersAfterOut}
 use Rattle.timer.specs.declared.Timer.{Timer}
 use Rattle.timer.specs.declared.Timers.{Timers}
-use Rattle.word.specs.Cases.{either}
+use Rattle.word.specs.Cases.{either, rest, this}
 use Rattle.times.specs.Cards.{CardStill, QuietCard, QuietCommand}
-use Rattle.times.specs.Statement.{RunStill, StepSets, StepTimers, Still}
+use Rattle.times.specs.NoTime.{CardNoTime, CardSets, CommandSets, NoTime, RunNoTime, RunSets, SetsWithin, WithoutTime}
+use Rattle.times.specs.Statement.{QuietRun, RunStill, StepSets, StepTimers, Still}
 use Rattle.times.specs.Statement.{periodPort, setsAt, setsPeriod, timerOf, timersBy}
 
 -- ---- a step
@@ -90,9 +93,9 @@ step-timers st m =
     commit-timers (p .plan) (p .state) m
     ∙ ap (timersBy (p .plan)) (plan-keeps (λ (s : State). s .timers ≡ st .timers) (λ s k right h. h) st m refl)
 
--- ---- no time
+-- ---- no time, where no period is set
 
-same : (t : Timer) → Still t t
+pub same : (t : Timer) → Still t t
 same t = record { count = refl; period = refl; fired = λ f. f }
 
 cleared : (t : Timer) → Still t (firedCleared t)
@@ -124,11 +127,6 @@ by-still k (Perform op) ts e =
     at-out false e = out-still timer0Port (ts .timer0) (op .port) (op .held) e
     at-out true e = out-still timer1Port (ts .timer1) (op .port) (op .held) e
 
-step-still :
-    (k : Bool) (st : State) (m : List ℕ) → setsPeriod k ((planOf st m) .plan) ≡ false
-    → Still (timerOf k (st .timers)) (timerOf k ((stepOf st m) .state .timers))
-step-still k st m e = rw (step-timers st m) (by-still k ((planOf st m) .plan) (st .timers) e)
-
 sets : (k : Bool) (ts : Timers) (v : ℕ) → timerOf k (timersAfterOut ts (periodPort k) v) ≡ periodSet (timerOf k ts) v
 unfolding afterOutAt
 sets false ts v = refl
@@ -137,22 +135,97 @@ sets true ts v = refl
 pub step-sets : StepSets
 step-sets k st m op p c port = rw (step-timers st m, p, c, port) (sets k (st .timers) (op .held))
 
--- ---- runs and cards
+-- ---- no time, be the period set or not
 
-onward : {t u v : Timer} → Still t u → Still u v → Still t v
-onward a b = record { count = b .count ∙ a .count; period = b .period ∙ a .period; fired = λ f. a .fired (b .fired f) }
+pub unset : {Set : Type 0} {t u : Timer} → (Set → ⊥) → Still t u → NoTime Set t u
+unset none s = record { fired = s .fired; count = inl (none, s .count); period = λ _. s .period }
 
-iterate-still :
-    (k : Bool) (n : ℕ) (st : State) (m : List ℕ) → ((i : ℕ) → i < n → setsAt k i st m ≡ false)
-    → Still (timerOf k (st .timers)) (timerOf k ((iterate n st m) .state .timers))
+still : {Set : Type 0} {t u : Timer} → (Set → ⊥) → NoTime Set t u → Still t u
+still none x =
+    record { count = ⊎-elim (λ kept. kept .1) (λ reset. absurd (none (reset .0))) (x .count); period = x .period none; fired = x .fired }
+
+-- that it was set, said in other words
+pub restated : {S T : Type 0} {t u : Timer} → (S → T) → (T → S) → NoTime S t u → NoTime T t u
+restated to from x =
+    record {
+      fired = x .fired;
+      count = ⊎-elim (λ kept. inl (λ s. kept .0 (from s), kept .1)) (λ reset. inr (to (reset .0), reset .1)) (x .count);
+      period = λ none. x .period (λ s. none (to s));
+    }
+
+-- a plan that sets it
+by-set : (k : Bool) (x : Plan) (ts : Timers) → setsPeriod k x ≡ true → NoTime (Unit {0}) (timerOf k ts) (timerOf k (timersBy x ts))
+by-set k (Interrupt line) ts e = absurd (false≢true e)
+by-set k (Violation why a) ts e = absurd (false≢true e)
+by-set k (Trap number saved) ts e = absurd (false≢true e)
+by-set k (Perform op) ts e =
+    let code : op .code ≡ OUT = eqb-true _ _ (this (eqb (op .code) OUT) _ e) in
+    let port : op .port ≡ periodPort k = eqb-true _ _ (rest (eqb (op .code) OUT) _ e) in
+    rw (code, port, sets k ts (op .held)) (record { fired = λ f. f; count = inr (tt, refl); period = λ none. absurd (none tt) })
+
+by-no-time : (k : Bool) (x : Plan) (ts : Timers) → NoTime (setsPeriod k x ≡ true) (timerOf k ts) (timerOf k (timersBy x ts))
+by-no-time k x ts = by (setsPeriod k x) refl
+  where
+    by : (b : Bool) → setsPeriod k x ≡ b → NoTime (setsPeriod k x ≡ true) (timerOf k ts) (timerOf k (timersBy x ts))
+    by true e = restated (λ _. e) (λ _. tt) (by-set k x ts e)
+    by false e = unset (λ f. false≢true (sym e ∙ f)) (by-still k x ts e)
+
+step-no-time :
+    (k : Bool) (st : State) (m : List ℕ)
+    → NoTime (setsPeriod k ((planOf st m) .plan) ≡ true) (timerOf k (st .timers)) (timerOf k ((stepOf st m) .state .timers))
+step-no-time k st m = rw (step-timers st m) (by-no-time k ((planOf st m) .plan) (st .timers))
+
+-- ---- a run
+
+onward : {S T : Type 0} {t u v : Timer} → NoTime S t u → NoTime T u v → NoTime (S ⊎ T) t v
+onward a b =
+    record {
+      fired = λ f. a .fired (b .fired f);
+      count =
+          ⊎-elim
+          (λ kept. ⊎-elim (λ before. inl (⊎-elim (before .0) (kept .0), kept .1 ∙ before .1))
+          (λ reset. inr (inl (reset .0), kept .1 ∙ reset .1)) (a .count))
+          (λ reset. inr (inr (reset .0), reset .1)) (b .count);
+      period = λ none. b .period (λ s. none (inr s)) ∙ a .period (λ s. none (inl s));
+    }
+
+-- the first step sets the period, or a later one
+module _ (k : Bool) (n : ℕ) (st : State) (m : List ℕ) where
+  abbrev FirstOrLater : Type 0
+  FirstOrLater = (setsPeriod k ((planOf st m) .plan) ≡ true) ⊎ SetsWithin k n ((stepOf st m) .state) ((stepOf st m) .memory)
+
+  some : FirstOrLater → SetsWithin k (suc n) st m
+  unfolding iterate
+  some (inl e) = record { number = 0; within = omega arith; sets = e }
+  some (inr s) = record { number = suc (s .number); within = omega arith; sets = s .sets }
+
+  which : SetsWithin k (suc n) st m → FirstOrLater
+  unfolding iterate
+  which s = by (s .number) (s .within) (s .sets)
+    where
+      by : (i : ℕ) → i < suc n → setsAt k i st m ≡ true → FirstOrLater
+      by zero l e = inl e
+      by (suc i) l e = inr (record { number = i; within = omega arith; sets = e })
+
+iterate-no-time :
+    (k : Bool) (n : ℕ) (st : State) (m : List ℕ)
+    → NoTime (SetsWithin k n st m) (timerOf k (st .timers)) (timerOf k ((iterate n st m) .state .timers))
 unfolding iterate
-iterate-still k zero st m h = same (timerOf k (st .timers))
-iterate-still k (suc n) st m h =
+iterate-no-time k zero st m = unset (λ s. omega (arith, s .within)) (same (timerOf k (st .timers)))
+iterate-no-time k (suc n) st m =
     let o : Outcome = stepOf st m in
-    onward (step-still k st m (h 0 (omega arith))) (iterate-still k n (o .state) (o .memory) (λ i l. h (suc i) (omega arith)))
+    restated (some k n st m) (which k n st m) (onward (step-no-time k st m) (iterate-no-time k n (o .state) (o .memory)))
+
+pub run-no-time : RunNoTime
+run-no-time k n st m = rw (counted n st m .state) (iterate-no-time k ((runOf n st m) .steps) st m)
+
+quiet-run : (k : Bool) (n : ℕ) (st : State) (m : List ℕ) → QuietRun k n st m → RunSets k n st m → ⊥
+quiet-run k n st m h s = false≢true (sym (h (s .number) (s .within)) ∙ s .sets)
 
 pub run-still : RunStill
-run-still k n st m h = rw (counted n st m .state) (iterate-still k ((runOf n st m) .steps) st m h)
+run-still k n st m h = still (quiet-run k n st m h) (run-no-time k n st m)
+
+-- ---- a card
 
 register-timers : (st : State) (n v : ℕ) → (withRegister st n v) .timers ≡ st .timers
 unfolding withRegister
@@ -160,22 +233,46 @@ register-timers st n v =
     let P : State → Type 0 = λ (s : State). s .timers ≡ st .timers in
     either P (ltb n 13) (λ _. refl) (λ _. either P (eqb n 13) (λ _. refl) (λ _. either P (eqb n 14) (λ _. refl) (λ _. refl)))
 
-command-still :
-    (k : Bool) (x : Command) (st : State) (m : List ℕ) → QuietCommand k x st m
-    → Still (timerOf k (st .timers)) (timerOf k ((effectOf x st m) .state .timers))
-unfolding effectOf
-command-still k (Run n) st m h = run-still k n st m h
-command-still k (Time ms) st m h = absurd h
-command-still k (Byte a v) st m h = same _
-command-still k (Register n v) st m h = rw (register-timers st n v) (same (timerOf k (st .timers)))
-command-still k (Lines lines v) st m h = same _
-command-still k (Entry e bits) st m h = same _
-command-still k (Mmu on) st m h = same _
-command-still k (Flag w) st m h = same _
+module _ (k : Bool) where
+  -- a command that is no run sets no period
+  no-run : (x : Command) (st : State) (m : List ℕ) (t : Timer) → isRun x ≡ 0 → NoTime (CommandSets k x st m) t t
+  no-run x st m t e = unset (λ s. omega (arith, e, ap isRun (s .run))) (same t)
+
+  command-no-time :
+      (x : Command) (st : State) (m : List ℕ) → ((ms : ℕ) → x ≡ Time ms → ⊥)
+      → NoTime (CommandSets k x st m) (timerOf k (st .timers)) (timerOf k ((effectOf x st m) .state .timers))
+  unfolding effectOf
+  command-no-time (Run n) st m h = restated (λ s. record { allowance = n; run = refl; sets = s }) back (run-no-time k n st m)
+    where
+      back : CommandSets k (Run n) st m → RunSets k n st m
+      back s = let e : s .allowance ≡ n = cc in rw e at (s .sets)
+  command-no-time (Time ms) st m h = absurd (h ms refl)
+  command-no-time (Byte a v) st m h = no-run (Byte a v) st m _ refl
+  command-no-time (Register n v) st m h = rw (register-timers st n v) (no-run (Register n v) st m (timerOf k (st .timers)) refl)
+  command-no-time (Lines lines v) st m h = no-run (Lines lines v) st m _ refl
+  command-no-time (Entry e bits) st m h = no-run (Entry e bits) st m _ refl
+  command-no-time (Mmu on) st m h = no-run (Mmu on) st m _ refl
+  command-no-time (Flag w) st m h = no-run (Flag w) st m _ refl
+
+pub card-no-time : CardNoTime
+unfolding CardSets WithoutTime executeOf
+card-no-time k [] st m h = unset (λ s. s) (same _)
+card-no-time k (x ∷ xs) st m h =
+    let done : Effect = effectOf x st m in
+    onward (command-no-time k x st m (h .0)) (card-no-time k xs (done .state) (done .memory) (h .1))
+
+-- commands without 08, none of whose runs sets the period
+quiet-without : (k : Bool) (xs : List Command) (st : State) (m : List ℕ) → QuietCard k xs st m → WithoutTime xs
+unfolding QuietCard WithoutTime
+quiet-without k [] st m h = tt
+quiet-without k (x ∷ xs) st m h = (λ ms e. subst (λ (c : Command). QuietCommand k c st m) e (h .0), quiet-without k xs _ _ (h .1))
+
+quiet-card : (k : Bool) (xs : List Command) (st : State) (m : List ℕ) → QuietCard k xs st m → CardSets k xs st m → ⊥
+unfolding QuietCard CardSets
+quiet-card k [] st m h s = s
+quiet-card k (x ∷ xs) st m h (inl s) =
+    quiet-run k (s .allowance) st m (subst (λ (c : Command). QuietCommand k c st m) (s .run) (h .0)) (s .sets)
+quiet-card k (x ∷ xs) st m h (inr s) = quiet-card k xs _ _ (h .1) s
 
 pub card-still : CardStill
-unfolding QuietCard executeOf
-card-still k [] st m h = same _
-card-still k (x ∷ xs) st m h =
-    let done : Effect = effectOf x st m in
-    onward (command-still k x st m (h .0)) (card-still k xs (done .state) (done .memory) (h .1))
+card-still k xs st m h = still (quiet-card k xs st m h) (card-no-time k xs st m (quiet-without k xs st m h))

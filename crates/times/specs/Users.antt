@@ -45,7 +45,7 @@ Plain (Trap number saved) = Unit {0}
 Plain (Perform op) = plain (op .code) ≡ true
 
 ends-plain : (code : ℕ) → plain code ≡ true → Ends Plain code
-ends-plain code c = record { performs = λ op e. rw e c; fails = λ why a. tt; traps = λ number saved l. tt }
+ends-plain code c = record { performs = λ op e. rw e c; fails = λ why a. tt; traps = λ number saved l h. tt }
 
 plan-plain : (st : State) (m : List ℕ) → User st → Plain ((planOf st m) .plan)
 plan-plain st m u =

@@ -6,24 +6,15 @@ ghost use lib.ListN.{drop, length};
 ghost use Rattle.image.specs.Decode.{stateFrom};
 ghost use Rattle.layout.specs.Layout.{imageSize};
 ghost use Rattle.machine.specs.Run.{runOf, stoppedEnding};
-ghost use Rattle.refusal.specs.Call.{called};
+ghost use Rattle.call.specs.Call.{buffers, called};
 ghost use Rattle.report.specs.Layout.{reportSize};
 ghost use Rattle.report.specs.Report.{reportOfRan};
 ghost use Rattle.view.specs.Call as def;
+use call::Answer;
 use machine::Condition;
 use machine::Ending;
 use refusal::Validity;
 use report::REPORT;
-
-// The tests of a run and of a view.
-pub fn validate_run(memory: usize, image: &[u8], report: usize) -> Validity
-    ensures { λ r. ⌜ r ≡ def.runValid memory (now (image .entry)) report ⌝ }
-{
-    refusal::and_then(
-        layout::validate_machine(memory, image),
-        refusal::report_fits(report, REPORT),
-    )
-}
 
 // How a run of no step ends.
 fn stopped_ending(condition: Condition) -> Ending
@@ -54,15 +45,16 @@ fn view_valid(image: &[u8], report: &mut [u8])
     );
 }
 
-// A view: the answer of `tac_view`.
-pub fn view(memory: &[u8], image: &[u8], report: &mut [u8]) -> u64
-    ensures { λ r. ⌜ called (now (memory .exit)) (now (image .exit)) (now (report .exit)) r ≡ def.viewCall (now (memory .entry)) (now (image .entry)) (now (report .entry)) ⌝ }
+// A view; it gives the number of report bytes filled.
+pub fn view(memory: &[u8], image: &[u8], report: &mut [u8]) -> Answer
+    ensures { λ r. ⌜ called r (buffers (now (memory .exit)) (now (image .exit)) (now (report .exit))) ≡ def.viewCall (now (memory .entry)) (now (image .entry)) (now (report .entry)) ⌝ }
 {
-    match validate_run(memory.len(), image, report.len()) {
-        Validity::Refused(refusal) => refusal::answer_of(refusal),
+    match call::validate_run(memory.len(), image, report.len()) {
+        Validity::Refused(refusal) => Answer::Refused(refusal),
         Validity::Good => {
             view_valid(image, report);
-            REPORT as u64
+            let filled = REPORT as u32;
+            Answer::Done(filled)
         }
     }
 }

@@ -1,7 +1,9 @@
 -- `bench::list_card` meets its contract.
 -- Assumes nothing.
-use borrow.Author.Needs.{needs}
+use mathlib.Core.Path.{ap}
 use Rattle.bench.specs.Laws.{written}
+use Rattle.card.specs.declared.CallValidity.{CallValidity}
+use borrow.Author.Needs.{needs}
 use Rattle.bench.proofs.list_card.Statement.{statement}
 use Rattle.bench.proofs.list_card.Tie as tie
 
@@ -10,6 +12,12 @@ add-image c = search needs
 
 array-write-image : tie.Need-array-write-image
 array-write-image c = search needs
+
+slice-aggregate-validate-card : tie.Need-slice-aggregate-validate-card
+slice-aggregate-validate-card c = search needs
+
+validate-card-requires : tie.Need-validate-card-requires
+validate-card-requires c κs = search needs
 
 slice-aggregate-run-card : tie.Need-slice-aggregate-run-card
 slice-aggregate-run-card c = search needs
@@ -33,9 +41,11 @@ returns : tie.Need-returns
 returns c =
     let listed = c .before .before .before in
     let ran = listed .before .before .before .before .before in
-    let start = ran .before .before .before .before .before .before .before in
+    let checked = ran .before .before .before .before in
+    let start = checked .before .before .before .before in
     written (start .args .card .now) (start .args .text .now) (listed .write-listing .last .1 .1 .0) _ (listed .write-listing .result) _ (start .pre)
-    (ran .run-card .ensures .1 .0) (ran .run-card .ensures .0) (listed .write-listing .ensures .0) (listed .write-listing .ensures .1)
+    (ap (λ (x : CallValidity). x .validity) (checked .validate-card .ensures)) (ran .run-card .ensures .0) (listed .write-listing .ensures .0)
+    (listed .write-listing .ensures .1)
 
 pub list-card-spec : {M : Type 1} → statement M
 list-card-spec =
@@ -43,6 +53,8 @@ list-card-spec =
     (tie.spec
     add-image
     array-write-image
+    slice-aggregate-validate-card
+    validate-card-requires
     slice-aggregate-run-card
     slice-aggregate-run-card-2
     slice-aggregate-run-card-3

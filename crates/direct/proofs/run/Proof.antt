@@ -1,9 +1,9 @@
 -- `direct::run` meets its contract.
 -- Assumes nothing.
 use mathlib.Core.Path.{refl, sym, _∙_}
-use Rattle.refusal.specs.Call.{called-is}
+use Rattle.call.specs.Laws.{buffers-are, called-is}
+use Rattle.call.specs.Passed.{passed}
 use Rattle.direct.specs.Call.{runCall}
-use Rattle.view.specs.Valid.{passed}
 use borrow.Author.Needs.{needs}
 use Rattle.direct.proofs.run.Statement.{statement}
 use Rattle.direct.proofs.run.Tie as tie
@@ -14,9 +14,6 @@ validate-run-requires c κs = search needs
 enum-known-refusal : tie.Need-enum-known-refusal
 enum-known-refusal c = search needs
 
-answer-of-requires : tie.Need-answer-of-requires
-answer-of-requires c κs = search needs
-
 enum-told : tie.Need-enum-told
 enum-told c = search needs
 
@@ -25,13 +22,15 @@ run-valid-requires c κs =
     let p = passed _ _ _ (sym (c .before .before .before .before .before .validate-run .ensures) ∙ c .before .before .before .enum-told .given .1) in
     (p .machine .memory, p .machine .image .size, p .room)
 
+cast-filled : tie.Need-cast-filled
+cast-filled c = search needs
+
 same-length : tie.Need-same-length
 same-length c = search needs
 
 returns : tie.Need-returns
 unfolding runCall
-returns c =
-    rw (← c .before .before .before .before .validate-run .ensures, c .before .before .refusal .given .1) (called-is _ (c .answer-of .ensures) refl refl refl)
+returns c = rw (← c .before .before .before .validate-run .ensures, c .before .refusal .given .1)
 
 same-length-2 : tie.Need-same-length-2
 same-length-2 c = search needs
@@ -49,7 +48,7 @@ returns-2 c =
     let told = ran .before .before .before .before in
     let checked = told .before .before in
     let did = ran .run-valid .ensures in
-    rw (← checked .validate-run .ensures, told .enum-told .given .1) (called-is _ refl (did .0) (did .1 .0) (did .1 .1))
+    rw (← checked .validate-run .ensures, told .enum-told .given .1) (called-is _ refl (buffers-are _ (did .0) (did .1 .0) (did .1 .1)))
 
 pub run-spec : {M : Type 1} → statement M
 run-spec =
@@ -57,9 +56,9 @@ run-spec =
     (tie.spec
     validate-run-requires
     enum-known-refusal
-    answer-of-requires
     enum-told
     run-valid-requires
+    cast-filled
     same-length
     returns
     same-length-2

@@ -1,9 +1,10 @@
 -- `look::look` meets its contract.
 -- Assumes nothing.
-use mathlib.Core.Path.{ap, sym, _∙_}
+use mathlib.Core.Path.{ap, refl, sym, _∙_}
 use borrow.Author.Needs.{needs}
-use Rattle.layout.specs.Laws.{image-good}
-use Rattle.refusal.specs.Call.{imageCalled}
+use Rattle.call.specs.Laws.{called-is}
+use Rattle.call.specs.Passed.{image-good}
+use Rattle.call.specs.declared.Answer.the-variants.{Done}
 use Rattle.look.specs.Call.{faultCall}
 use Rattle.look.proofs.look.Statement.{statement}
 use Rattle.look.proofs.look.Tie as tie
@@ -13,9 +14,6 @@ validate-image-requires c κs = search needs
 
 enum-known-refusal : tie.Need-enum-known-refusal
 enum-known-refusal c = search needs
-
-answer-of-requires : tie.Need-answer-of-requires
-answer-of-requires c κs = search needs
 
 enum-told : tie.Need-enum-told
 enum-told c = search needs
@@ -32,16 +30,14 @@ fault-word-requires c κs = search needs
 
 returns : tie.Need-returns
 unfolding faultCall
-returns c =
-    rw (← c .before .before .before .before .validate-image .ensures, c .before .before .refusal .given .1)
-    (ap (imageCalled _) (c .answer-of .ensures))
+returns c = rw (← c .before .before .before .validate-image .ensures, c .before .refusal .given .1)
 
 returns-2 : tie.Need-returns-2
 unfolding faultCall
 returns-2 c =
     let told = c .before .before .before in
     rw (← told .before .before .validate-image .ensures, told .enum-told .given .1, ← c .before .before .read-image .ensures)
-    (ap (imageCalled _) (c .fault-word .ensures ∙ rw (c .before .look .ensures)))
+    (called-is _ (ap Done (c .fault-word .ensures ∙ rw (c .before .look .ensures))) refl)
 
 pub look-spec : {M : Type 1} → statement M
 look-spec =
@@ -49,7 +45,6 @@ look-spec =
     (tie.spec
     validate-image-requires
     enum-known-refusal
-    answer-of-requires
     enum-told
     read-image-requires
     look-requires

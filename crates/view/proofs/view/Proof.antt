@@ -1,9 +1,9 @@
 -- `view::view` meets its contract.
 -- Assumes nothing.
 use mathlib.Core.Path.{refl, sym, _∙_}
-use Rattle.refusal.specs.Call.{called-is}
+use Rattle.call.specs.Laws.{buffers-are, called-is}
+use Rattle.call.specs.Passed.{passed}
 use Rattle.view.specs.Call.{viewCall}
-use Rattle.view.specs.Valid.{passed}
 use borrow.Author.Needs.{needs}
 use Rattle.view.proofs.view.Statement.{statement}
 use Rattle.view.proofs.view.Tie as tie
@@ -13,9 +13,6 @@ validate-run-requires c κs = search needs
 
 enum-known-refusal : tie.Need-enum-known-refusal
 enum-known-refusal c = search needs
-
-answer-of-requires : tie.Need-answer-of-requires
-answer-of-requires c κs = search needs
 
 enum-told : tie.Need-enum-told
 enum-told c = search needs
@@ -27,8 +24,10 @@ view-valid-requires c κs =
 
 returns : tie.Need-returns
 unfolding viewCall
-returns c =
-    rw (← c .before .before .before .before .validate-run .ensures, c .before .before .refusal .given .1) (called-is _ (c .answer-of .ensures) refl refl refl)
+returns c = rw (← c .before .before .before .validate-run .ensures, c .before .refusal .given .1)
+
+cast-filled : tie.Need-cast-filled
+cast-filled c = search needs
 
 same-length : tie.Need-same-length
 same-length c = search needs
@@ -40,7 +39,7 @@ returns-2 c =
     let checked = told .before .before in
     let start = checked .before .before .before .before in
     rw (← checked .validate-run .ensures, told .enum-told .given .1)
-    (called-is _ refl refl refl (c .before .before .view-valid .ensures (start .args .memory .now)))
+    (called-is _ refl (buffers-are _ refl refl (c .before .before .view-valid .ensures (start .args .memory .now))))
 
 pub view-spec : {M : Type 1} → statement M
 view-spec =
@@ -48,9 +47,9 @@ view-spec =
     (tie.spec
     validate-run-requires
     enum-known-refusal
-    answer-of-requires
     enum-told
     view-valid-requires
+    cast-filled
     returns
     same-length
     returns-2)

@@ -1,7 +1,7 @@
 -- `view::view_valid` meets its contract.
 -- Assumes nothing.
 use borrow.Author.Needs.{needs}
-use Rattle.view.specs.Valid.{no-step}
+use Rattle.view.specs.Laws.{no-step}
 use Rattle.view.proofs.view_valid.Statement.{statement}
 use Rattle.view.proofs.view_valid.Tie as tie
 

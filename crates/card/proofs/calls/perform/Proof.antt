@@ -1,12 +1,15 @@
 -- `card::calls::perform` meets its contract.
 -- Assumes nothing.
-use mathlib.Core.Path.{refl}
+use mathlib.Core.Path.{ap}
+use native.Mathlib.Omega.{arith}
 use lib.ListN.{length}
 use borrow.Author.Needs.{needs}
-use Rattle.refusal.specs.Call.{called-is}
+use Rattle.call.specs.Laws.{buffers-are, called-is}
+use Rattle.call.specs.declared.Answer.the-variants.{Done}
 use Rattle.card.specs.Call.{cardCall}
 use Rattle.card.specs.Passed.{Passed, passed}
-use Rattle.command.specs.Laws.{read-whole}
+use Rattle.card.specs.declared.CallValidity.{CallValidity}
+use Rattle.command.specs.Laws.{read-whole, runs-bound}
 use Rattle.card.proofs.calls.perform.Statement.{statement}
 use Rattle.card.proofs.calls.perform.Tie as tie
 
@@ -15,9 +18,6 @@ validate-card-requires c κs = search needs
 
 enum-known-validity : tie.Need-enum-known-validity
 enum-known-validity c = search needs
-
-answer-of-requires : tie.Need-answer-of-requires
-answer-of-requires c κs = search needs
 
 enum-told : tie.Need-enum-told
 enum-told c = search needs
@@ -35,14 +35,18 @@ execute-valid-requires c κs =
     let r = read-whole _ (p .read) in
     (p .machine .memory, p .machine .image .size, r .0, rw (r .1) at (p .room))
 
+cast-filled : tie.Need-cast-filled
+cast-filled c =
+    let checked = c .before .before .before .before .before .before .before .before .before .before .before .before .before in
+    let start = checked .before .before .before .before .before .before in
+    omega (arith, ap (λ (x : CallValidity). x .needed) (checked .validate-card .ensures), runs-bound (start .args .card .now))
+
 same-length : tie.Need-same-length
 same-length c = search needs
 
 returns : tie.Need-returns
 unfolding cardCall
-returns c =
-    rw (rw (c .before .before .before .before .validate-card .ensures) at (c .before .before .validity .given .1))
-    (called-is _ (c .answer-of .ensures) refl refl refl)
+returns c = rw (rw (c .before .before .before .validate-card .ensures) at (c .before .validity .given .1))
 
 same-length-2 : tie.Need-same-length-2
 same-length-2 c = search needs
@@ -56,12 +60,12 @@ same-length-4 c = search needs
 returns-2 : tie.Need-returns-2
 unfolding cardCall
 returns-2 c =
-    let executed = c .before .before .before .before .before .before in
+    let executed = c .before .before .before .before .before .before .before in
     let told = executed .before .before .before .before in
     let checked = told .before .before .validate-card .ensures in
     let whole = read-whole _ (good told .read) .1 in
     let did = executed .execute-valid .ensures in
-    rw (rw checked at (told .enum-told .given .1), whole) (called-is _ (rw (checked, whole)) (did .0) (did .1 .0) (did .1 .1))
+    rw (rw checked at (told .enum-told .given .1), whole) (called-is _ (ap Done (rw (checked, whole))) (buffers-are _ (did .0) (did .1 .0) (did .1 .1)))
 
 pub perform-spec : {M : Type 1} → statement M
 perform-spec =
@@ -69,9 +73,9 @@ perform-spec =
     (tie.spec
     validate-card-requires
     enum-known-validity
-    answer-of-requires
     enum-told
     execute-valid-requires
+    cast-filled
     same-length
     returns
     same-length-2

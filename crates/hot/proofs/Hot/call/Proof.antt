@@ -57,16 +57,14 @@ write-requires c κs = search needs
 element-write-regs : tie.Need-element-write-regs
 element-write-regs c = search needs
 
-add-to : tie.Need-add-to
-add-to c =
-    omega (
-      arith,
-      c .before .before .before .before .before .before .before .before .if3 .left,
-      c .before .before .before .before .before .before .before .before .before .before .before .before .if2 .left,
-    )
+cast-plus : tie.Need-cast-plus
+cast-plus c = search needs
 
-cast-to : tie.Need-cast-to
-cast-to c = search needs
+cast-plus-2 : tie.Need-cast-plus-2
+cast-plus-2 c = search needs
+
+plus-requires-3 : tie.Need-plus-requires-3
+plus-requires-3 c κs = search needs
 
 to-requires : tie.Need-to-requires
 to-requires c κs = search needs
@@ -76,19 +74,18 @@ same-length-2 c = search needs
 
 returns-4 : tie.Need-returns-4
 returns-4 c =
-    let a = c .before .before .before .before .before .before .before .before .before .before .before .before .before .before .before .before .before .before .args in
-    let pre′ = c .before .before .before .before .before .before .before .before .before .before .before .before .before .before .before .before .before .before .pre in
-    let fetch′ = c .before .before .before .before .before .before .before .before .before .before .fetch in
-    let if3′ = c .before .before .before .before .before .before .before .before .before .if3 in
-    let minus′ = c .before .before .before .before .before .before .before .minus in
-    let plus2′ = c .before .before .before .before .before .plus2 in
-    rw (c .to .ensures) (call-tells (a .map .now) (a .regs .now) (pre′ .0) (a .mem .now) (a .self) (a .w)
-    (c .before .before .before .before .before .before .before .before .before .before .before .before .before .before .before .before .if1 .left)
-    (c .before .before .before .before .before .before .before .before .before .before .before .before .before .before .added .ensures
-    (c .before .before .before .before .before .before .before .before .before .before .before .before .before .if2 .left)) (fetch′ .result)
-    (rw (c .before .before .before .before .before .before .before .before .before .before .before .plus .ensures) at (fetch′ .ensures (if3′ .left)))
-    (pre′ .3) (if3′ .left) _ refl (plus2′ .result) (plus2′ .ensures) (minus′ .result) (minus′ .ensures)
-    (wrote (c .before .before .before .before .write .ensures) (c .before .if4 .taken)))
+    let written = c .before .before in
+    let fetched = written .before .before .before .before .before .before .before .before in
+    let found = fetched .before .before .before .before in
+    let start = found .before .before .before .before .before in
+    let a = start .args in
+    let minus′ = written .before .before .before .before .before .before .minus in
+    let plus2′ = written .before .before .before .before .plus2 in
+    rw (c .to .ensures) (call-tells (a .map .now) (a .regs .now) (start .pre .0) (a .mem .now) (a .self) (a .w)
+    (found .before .before .before .if1 .left) (found .before .added .ensures (found .if2 .left)) (fetched .before .fetch .result)
+    (rw (fetched .before .before .plus .ensures) at (fetched .before .fetch .ensures (fetched .if3 .left))) (start .pre .3) (fetched .if3 .left)
+    (c .before .plus3 .result) (c .before .plus3 .ensures) (plus2′ .result) (plus2′ .ensures) (minus′ .result) (minus′ .ensures)
+    (wrote (written .before .before .before .write .ensures) (written .if4 .taken)))
 
 stop-requires-4 : tie.Need-stop-requires-4
 stop-requires-4 c κs = search needs
@@ -119,8 +116,9 @@ call-spec =
     plus-requires-2
     write-requires
     element-write-regs
-    add-to
-    cast-to
+    cast-plus
+    cast-plus-2
+    plus-requires-3
     to-requires
     same-length-2
     returns-4

@@ -59,47 +59,43 @@ word-at-requires c κs =
     let p = c .before .before .before .place .ensures (c .before .before .if4 .left) in
     (pre′ .1, c .before .before .if4 .left, omega (arith, p .place, c .before .before .before .before .plus .ensures, pre′ .2))
 
-add-to : tie.Need-add-to
-add-to c =
+cast-plus : tie.Need-cast-plus
+cast-plus c =
     let bytes′ = c .before .before .before .before .before .before .before .before .before .before .shared-slice-known in
     let place′ = c .before .before .before .before .place in
-    omega (
-      arith,
-      c .before .before .before .before .before .before .if3 .left,
-      bytes′ .given (place′ .result),
-      bytes′ .given
-          (plus (place′ .result) 1),
-      c .word-at .ensures,
-    )
+    omega (arith, bytes′ .given (place′ .result), bytes′ .given (plus (place′ .result) 1), c .word-at .ensures)
 
-cast-to : tie.Need-cast-to
-cast-to c = search needs
+cast-plus-2 : tie.Need-cast-plus-2
+cast-plus-2 c = search needs
+
+plus-requires-2 : tie.Need-plus-requires-2
+plus-requires-2 c κs = search needs
 
 to-requires : tie.Need-to-requires
 to-requires c κs = search needs
 
 returns-5 : tie.Need-returns-5
 returns-5 c =
-    let a = c .before .before .before .before .before .before .before .before .before .before .before .before .args in
-    let pre′ = c .before .before .before .before .before .before .before .before .before .before .before .before .pre in
-    let bytes′ = c .before .before .before .before .before .before .before .before .before .before .before .shared-slice-known in
-    let place′ = c .before .before .before .before .before .place in
-    let p = place′ .ensures (c .before .before .before .before .if4 .left) in
-    let f : Reads (a .map .now) (a .mem .now) Execute Word (plus (a .self .pc) 2) (c .before .word-at .result) = record {
+    let a = c .before .before .before .before .before .before .before .before .before .before .before .before .before .args in
+    let pre′ = c .before .before .before .before .before .before .before .before .before .before .before .before .before .pre in
+    let bytes′ = c .before .before .before .before .before .before .before .before .before .before .before .before .shared-slice-known in
+    let place′ = c .before .before .before .before .before .before .place in
+    let p = place′ .ensures (c .before .before .before .before .before .if4 .left) in
+    let f : Reads (a .map .now) (a .mem .now) Execute Word (plus (a .self .pc) 2) (c .before .before .word-at .result) = record {
       at = place′ .result;
-      placed = word-placed (rw (c .before .before .before .before .before .before .plus .ensures) at p) (omega (arith, pre′ .2));
-      value = c .before .word-at .ensures;
+      placed = word-placed (rw (c .before .before .before .before .before .before .before .plus .ensures) at p) (omega (arith, pre′ .2));
+      value = c .before .before .word-at .ensures;
     } in
     rw (c .to .ensures) (jump-tells (a .map .now) (a .regs .now) (pre′ .0) (a .mem .now) (a .self) (a .w)
-    (c .before .before .before .before .before .before .before .before .before .before .if1 .left)
-    (c .before .before .before .before .before .before .before .before .added .ensures
-    (c .before .before .before .before .before .before .before .if3 .left)) (c .before .word-at .result) f (pre′ .3)
-    (c .before .before .before .before .before .before .before .before .before .if2 .left)
-    (omega (arith, bytes′ .given (place′ .result), bytes′ .given (plus (place′ .result) 1), c .before .word-at .ensures)) _
-    refl (sym (c .before .before .before .taken .ensures) ∙ c .before .before .if5 .taken))
+    (c .before .before .before .before .before .before .before .before .before .before .before .if1 .left)
+    (c .before .before .before .before .before .before .before .before .before .added .ensures
+    (c .before .before .before .before .before .before .before .before .if3 .left)) (c .before .before .word-at .result) f (pre′ .3)
+    (c .before .before .before .before .before .before .before .before .before .before .if2 .left)
+    (omega (arith, bytes′ .given (place′ .result), bytes′ .given (plus (place′ .result) 1), c .before .before .word-at .ensures))
+    (c .before .plus2 .result) (c .before .plus2 .ensures) (sym (c .before .before .before .before .taken .ensures) ∙ c .before .before .before .if5 .taken))
 
-plus-requires-2 : tie.Need-plus-requires-2
-plus-requires-2 c κs = search needs
+plus-requires-3 : tie.Need-plus-requires-3
+plus-requires-3 c κs = search needs
 
 to-requires-2 : tie.Need-to-requires-2
 to-requires-2 c κs = search needs
@@ -119,7 +115,7 @@ returns-6 c =
     (c .before .before .before .before .before .before .before .before .before .before .if1 .left)
     (c .before .before .before .before .before .before .before .before .added .ensures
     (c .before .before .before .before .before .before .before .if3 .left)) _ f (pre′ .3)
-    (c .before .before .before .before .before .before .before .before .before .if2 .left) _ (c .before .plus2 .ensures)
+    (c .before .before .before .before .before .before .before .before .before .if2 .left) _ (c .before .plus3 .ensures)
     (sym (c .before .before .before .taken .ensures) ∙ c .before .before .if5 .left))
 
 pub jump-spec : {M : Type 1} → statement M
@@ -140,10 +136,11 @@ jump-spec =
     cast-taken
     taken-requires
     word-at-requires
-    add-to
-    cast-to
+    cast-plus
+    cast-plus-2
+    plus-requires-2
     to-requires
     returns-5
-    plus-requires-2
+    plus-requires-3
     to-requires-2
     returns-6)

@@ -3,6 +3,7 @@
 use mathlib.Core.Path.{refl}
 use borrow.Author.Needs.{needs}
 use Rattle.pages.specs.Accesses.{not-wrote, wrote}
+use Rattle.source.specs.Fields.{register-read}
 use Rattle.hot.specs.Moves.{push-tells}
 use Rattle.hot.specs.Tells.{stop}
 use Rattle.hot.proofs.Hot.push.Statement.{statement}
@@ -49,7 +50,7 @@ returns-2 c =
     let a = c .before .before .before .before .before .before .before .before .before .before .before .before .before .args in
     let pre′ = c .before .before .before .before .before .before .before .before .before .before .before .before .before .pre in
     let minus′ = c .before .before .before .before .before .before .before .minus in
-    let r = c .before .before .before .before .before .before .before .before .before .before .register .ensures
+    let r = register-read (c .before .before .before .before .before .before .before .before .before .before .register .ensures)
     (c .before .before .before .before .before .before .before .before .before .if1 .left) in
     rw (c .to .ensures) (push-tells (a .map .now) (a .regs .now) (pre′ .0) (a .mem .now) (a .self) (a .w) (c .before .plus .result)
     (c .before .plus .ensures) (pre′ .2) (r .low) (minus′ .result) (minus′ .ensures)

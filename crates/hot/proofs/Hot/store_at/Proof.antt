@@ -3,6 +3,7 @@
 use mathlib.Core.Path.{refl}
 use borrow.Author.Needs.{needs}
 use Rattle.pages.specs.Accesses.{not-wrote, wrote}
+use Rattle.source.specs.Fields.{register-read}
 use Rattle.hot.specs.Tells.{goes, stays}
 use Rattle.hot.proofs.Hot.store_at.Statement.{statement}
 use Rattle.hot.proofs.Hot.store_at.Tie as tie
@@ -30,7 +31,7 @@ same-length c = search needs
 
 returns-2 : tie.Need-returns-2
 returns-2 c =
-    let r = c .before .before .before .before .before .before .before .register .ensures
+    let r = register-read (c .before .before .before .before .before .before .before .register .ensures)
     (c .before .before .before .before .before .before .if1 .left) in
     goes (c .to .ensures) (r .low) (rw (r .value) at (wrote (c .before .before .before .before .write .ensures) (c .before .if2 .taken)))
 

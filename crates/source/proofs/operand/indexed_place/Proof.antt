@@ -1,8 +1,8 @@
 -- `source::operand::indexed_place` meets its contract.
 -- Assumes nothing.
-use mathlib.Core.Path.{refl}
-use native.Mathlib.Omega.{arith}
 use borrow.Author.Needs.{needs}
+use borrow.Author.Tests.{le-ltb, lt-ltb}
+use Rattle.source.specs.Fields.{indexedAddress}
 use Rattle.source.proofs.operand.indexed_place.Statement.{statement}
 use Rattle.source.proofs.operand.indexed_place.Tie as tie
 
@@ -10,16 +10,46 @@ rx-requires : tie.Need-rx-requires
 rx-requires c κs = search needs
 
 returns : tie.Need-returns
-returns c = λ l. absurd (omega arith)
+unfolding indexedAddress
+returns c = rw (le-ltb _ 65536 (c .if1 .taken))
 
 returns-2 : tie.Need-returns-2
-returns-2 c = λ l. absurd (omega arith)
+unfolding indexedAddress
+returns-2 c = rw (← c .before .before .rx .ensures, lt-ltb _ 65536 (c .before .if1 .left), le-ltb _ 65536 (c .if2 .taken))
 
-add-result : tie.Need-add-result
-add-result c = search needs
+cast-plus : tie.Need-cast-plus
+cast-plus c = search needs
+
+cast-plus-2 : tie.Need-cast-plus-2
+cast-plus-2 c = search needs
+
+plus-requires : tie.Need-plus-requires
+plus-requires c κs = search needs
+
+wide-requires : tie.Need-wide-requires
+wide-requires c κs = search needs
 
 returns-3 : tie.Need-returns-3
-returns-3 c = λ l. let r = c .before .before .rx .ensures (c .if2 .left) in record { below = omega arith; index = c .before .before .rx .result; read = r; value = refl }
+unfolding indexedAddress
+returns-3 c =
+    let tests = c .before .before in
+    rw (
+      c .wide .ensures,
+      c .before .plus .ensures,
+      ← tests .before .before .rx .ensures,
+      lt-ltb _ 65536 (tests .before .if1 .left),
+      lt-ltb _ 65536 (tests .if2 .left),
+    )
 
 pub indexed-place-spec : {M : Type 1} → statement M
-indexed-place-spec = tie.close (tie.spec rx-requires returns returns-2 add-result returns-3)
+indexed-place-spec =
+    tie.close
+    (tie.spec
+    rx-requires
+    returns
+    returns-2
+    cast-plus
+    cast-plus-2
+    plus-requires
+    wide-requires
+    returns-3)

@@ -1,0 +1,4 @@
+pub mod Call
+pub mod Laws
+pub mod Passed
+pub mod Valid
