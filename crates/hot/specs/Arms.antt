@@ -83,6 +83,6 @@ module _ (rs : List ℕ) (size : length rs ≡ 16) (h : Hot) (w : ℕ) (x : Sour
 
       pub divided-operates :
           Computes code flow.Divide extra → n ≡ x .cost + extra → {rs′ : List ℕ} {y : Hot}
-          → Divided rs (rdField w) (x .value) r (x .next) n rs′ y → Operates rs h w x rs′ y
+          → Divided rs h (rdField w) (x .value) r (x .next) n rs′ y → Operates rs h w x rs′ y
       divided-operates c k (by-zero z p) = stay z p
       divided-operates c k (quotient z e p) = rw (e, p) (divide-operates c z k)

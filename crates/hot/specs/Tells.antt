@@ -3,7 +3,7 @@
 -- Assumes nothing.
 use mathlib.Core.Bool.{Bool, false, true}
 use mathlib.Core.List.{List}
-use mathlib.Core.Path.{ap, _∙_, _≡_}
+use mathlib.Core.Path.{ap, refl, _∙_, _≡_}
 use Prim.Native.Nat.{ℕ, _%_, _*_, _+_, _/_, _<_}
 use native.Mathlib.Omega.{arith}
 use lib.ListN.{getD, length, set}
@@ -23,6 +23,7 @@ use Rattle.word.specs.Word.{minus, plus, upper}
 use Rattle.source.specs.Fields.{RxRead, modeOf}
 use Rattle.source.specs.Rows.{Computes, addCost, loadCost}
 use Rattle.source.specs.Sources.{Named, Valued}
+use Rattle.hot.specs.Conditions.{flagBits}
 use Rattle.hot.specs.declared.Hot.{Hot}
 use Rattle.source.specs.declared.operand.Source.{Source}
 
@@ -36,6 +37,10 @@ zOf h = zeroOf (h .result)
 -- to another address, in these states
 abbrev pub to : Hot → ℕ → ℕ → Hot
 to h pc cost = record { pc = pc; v = h .v; c = h .c; result = h .result; cost = cost }
+
+-- not carried out: nothing but the count of its states
+abbrev pub stopOf : Hot → Hot
+stopOf h = to h (h .pc) 0
 
 -- the flags of a result
 abbrev pub flagged : Alu → ℕ → ℕ → Hot
@@ -64,15 +69,15 @@ pub data Acts (rs : List ℕ) (h : Hot) (w : ℕ) (x : Source) (rs′ : List ℕ
 
 -- what the operation stage tells
 pub data Operates (rs : List ℕ) (h : Hot) (w : ℕ) (x : Source) (rs′ : List ℕ) (r : Hot) : Type 0 where
-  stay : r .cost ≡ 0 → rs′ ≡ rs → Operates rs h w x rs′ r
+  stay : r ≡ stopOf h → rs′ ≡ rs → Operates rs h w x rs′ r
   act :
       0 < r .cost → r .cost < 65536 → length rs ≡ 16 → length rs′ ≡ 16 → rdField w < 14 → x .value < 65536 → Acts rs h w x rs′ r
       → Operates rs h w x rs′ r
 
 -- a division
-pub data Divided (rs : List ℕ) (d b : ℕ) (a : Alu) (pc cost : ℕ) (rs′ : List ℕ) (r : Hot) : Type 0 where
-  by-zero : r .cost ≡ 0 → rs′ ≡ rs → Divided rs d b a pc cost rs′ r
-  quotient : (b ≡ 0 → ⊥) → r ≡ flagged a pc cost → rs′ ≡ set rs d (a .value) → Divided rs d b a pc cost rs′ r
+pub data Divided (rs : List ℕ) (h : Hot) (d b : ℕ) (a : Alu) (pc cost : ℕ) (rs′ : List ℕ) (r : Hot) : Type 0 where
+  by-zero : r ≡ stopOf h → rs′ ≡ rs → Divided rs h d b a pc cost rs′ r
+  quotient : (b ≡ 0 → ⊥) → r ≡ flagged a pc cost → rs′ ≡ set rs d (a .value) → Divided rs h d b a pc cost rs′ r
 
 -- ---- the instructions that move
 
@@ -81,9 +86,14 @@ pub data Added (rs : List ℕ) (mode pc w r : ℕ) : Type 0 where
   none : mode ≡ 0 → r ≡ 0 → Added rs mode pc w r
   one : (mode ≡ 0 → ⊥) → RxRead rs (plus pc 4) (w % 16) r → Added rs mode pc w r
 
+-- to an address, if that is even
+pub data Led (h : Hot) (pc cost : ℕ) (r : Hot) : Type 0 where
+  halts : r ≡ stopOf h → Led h pc cost r
+  leads : pc % 2 ≡ 0 → r ≡ to h pc cost → Led h pc cost r
+
 -- Rd stored at an address, and on to the next instruction
 pub data Stored (map rs m : List ℕ) (h : Hot) (w : ℕ) (width : Width) (a next cost : ℕ) (m′ : List ℕ) (r : Hot) : Type 0 where
-  stays : r .cost ≡ 0 → m′ ≡ m → Stored map rs m h w width a next cost m′ r
+  stays : r ≡ stopOf h → m′ ≡ m → Stored map rs m h w width a next cost m′ r
   goes : r ≡ to h next cost → rdField w < 14 → Wrote map m width a (getD rs (rdField w) 0) m′ → Stored map rs m h w width a next cost m′ r
 
 -- ST in its modes, with its states
@@ -131,19 +141,43 @@ pub data Turned (map rs m : List ℕ) (h : Hot) (w : ℕ) (rs′ m′ : List ℕ
       → Turned map rs m h w rs′ m′ r
 
 pub data Tells (map rs m : List ℕ) (h : Hot) (w : ℕ) (rs′ m′ : List ℕ) (r : Hot) : Type 0 where
-  stop : r .cost ≡ 0 → rs′ ≡ rs → m′ ≡ m → Tells map rs m h w rs′ m′ r
+  stop : r ≡ stopOf h → rs′ ≡ rs → m′ ≡ m → Tells map rs m h w rs′ m′ r
   done :
-      0 < r .cost → r .cost < 65536 → length rs ≡ 16 → length rs′ ≡ 16 → Turned map rs m h w rs′ m′ r → Tells map rs m h w rs′ m′ r
+      0 < r .cost → r .cost < 65536 → r .pc % 2 ≡ 0 → length rs ≡ 16 → length rs′ ≡ 16 → Turned map rs m h w rs′ m′ r → Tells map rs m h w rs′ m′ r
 
-module _ {map rs m : List ℕ} {h : Hot} {w : ℕ} {rs′ m′ : List ℕ} {r : Hot} where
-  pub stopped : Tells map rs m h w rs′ m′ r → r .cost ≡ 0 → (rs′ ≡ rs) × (m′ ≡ m)
-  stopped (stop z p q) e = (p, q)
-  stopped (done l k n s t) e = absurd (omega arith)
+-- the same with LD Rd,FLAG, `top` being E, P and I in their places in FLAG
+pub data Told (top : ℕ) (map rs m : List ℕ) (h : Hot) (w : ℕ) (rs′ m′ : List ℕ) (r : Hot) : Type 0 where
+  plain : Tells map rs m h w rs′ m′ r → Told top map rs m h w rs′ m′ r
+  flag-held :
+      {next : ℕ} → upper w ≡ ST * 8 + 4 → rdField w < 14 → length rs ≡ 16 → length rs′ ≡ 16 → next ≡ plus (h .pc) 2 → next % 2 ≡ 0
+      → rs′ ≡ set rs (rdField w) (top + flagBits (h .v) (h .c) (sOf h) (zOf h)) → m′ ≡ m → r ≡ to h next 4 → Told top map rs m h w rs′ m′ r
 
-  pub small : Tells map rs m h w rs′ m′ r → r .cost < 65536
-  small (stop z p q) = omega arith
-  small (done l k n s t) = k
+module _ {top : ℕ} {map rs m : List ℕ} {h : Hot} {w : ℕ} {rs′ m′ : List ℕ} {r : Hot} where
+  pub stopped : Told top map rs m h w rs′ m′ r → r .cost ≡ 0 → (r ≡ stopOf h) × (rs′ ≡ rs) × (m′ ≡ m)
+  stopped (plain (stop z p q)) e = (z, p, q)
+  stopped (plain (done l k v n s t)) e = absurd (omega arith)
+  stopped (flag-held f low n s x v p q z) e = let k : _≡_ {A = ℕ} 4 0 = rw z at e in absurd (omega arith)
 
-  pub sized : length rs ≡ 16 → Tells map rs m h w rs′ m′ r → length rs′ ≡ 16
-  sized e (stop z p q) = ap length p ∙ e
-  sized e (done l k n s t) = s
+  pub small : Told top map rs m h w rs′ m′ r → r .cost < 65536
+  small (plain (stop z p q)) = rw z (omega arith)
+  small (plain (done l k v n s t)) = k
+  small (flag-held f low n s x v p q z) = rw z (omega arith)
+
+  pub sized : length rs ≡ 16 → Told top map rs m h w rs′ m′ r → length rs′ ≡ 16
+  sized e (plain (stop z p q)) = ap length p ∙ e
+  sized e (plain (done l k v n s t)) = s
+  sized e (flag-held f low n s x v p q z) = s
+
+  -- PC stays even
+  pub evened : h .pc % 2 ≡ 0 → Told top map rs m h w rs′ m′ r → r .pc % 2 ≡ 0
+  evened e (plain (stop z p q)) = rw z e
+  evened e (plain (done l k v n s t)) = v
+  evened e (flag-held f low n s x v p q z) = rw z v
+
+-- an operation leads to the following instruction
+pub acts-on : {rs : List ℕ} {h : Hot} {w : ℕ} {x : Source} {rs′ : List ℕ} {r : Hot} → Acts rs h w x rs′ r → r .pc ≡ x .next
+acts-on (load e p q) = rw q refl
+acts-on (compare a e c p q) = rw q refl
+acts-on (compute a c n e t p q) = rw q refl
+acts-on (divide a c n e z t p q) = rw q refl
+acts-on (shift a c n e t p q) = rw q refl

@@ -1,8 +1,7 @@
 // The instructions: PC, the arithmetic flags, the registers and memory after one, or nothing changed where it is not carried out here.
 ghost use mathlib.Core.Path.{_≡_};
-ghost use Prim.Native.Nat.{_<_, _%_};
+ghost use Prim.Native.Nat.{_<_, _/_};
 ghost use lib.ListN.{length, set};
-ghost use Rattle.status.specs.Flag.{takenOn};
 ghost use Rattle.source.specs.Rows.{addCost, loadCost};
 ghost use Rattle.source.specs.Fields.{modeOf};
 ghost use Rattle.hot.specs.Tells as def;
@@ -29,35 +28,14 @@ impl Hot {
 
     // Not carried out.
     pub(crate) fn stop(self) -> Hot
-        ensures { λ r. ⌜ r .cost ≡ 0 ⌝ }
+        ensures { λ r. ⌜ r ≡ def.stopOf self ⌝ }
     {
         self.to(self.pc, 0)
     }
 
-    // S, the sign of the result.
-    pub fn s(self) -> bool
-        ensures { λ r. ⌜ r ≡ def.sOf self ⌝ }
-    {
-        32768 <= self.result
-    }
-
-    // Z: the result is 0.
-    pub fn z(self) -> bool
-        ensures { λ r. ⌜ r ≡ def.zOf self ⌝ }
-    {
-        self.result == 0
-    }
-
-    // A jump is taken.
-    pub(crate) fn taken(self, n: u8) -> bool
-        ensures { λ r. ⌜ r ≡ takenOn n (self .v) (self .c) (def.sOf self) (def.zOf self) ⌝ }
-    {
-        status::taken(n, self.v, self.c, self.s(), self.z())
-    }
-
-    // LD and ADD to SHRL with their operand.
-    pub(crate) fn operate(self, regs: &mut [u16; 16], w: u16, x: Source) -> Hot
-        requires { ⌜ (length (now regs) ≡ 16) × (x .cost ≡ addCost (modeOf w)) ⌝ }
+    // LD and ADD to SHRL, by code and mode, with their operand.
+    pub(crate) fn operate(self, regs: &mut [u16; 16], w: u32, code: u8, mode: u32, x: Source) -> Hot
+        requires { ⌜ (length (now regs) ≡ 16) × (x .cost ≡ addCost (modeOf w)) × (w / 2048 ≡ code) × (modeOf w ≡ mode) ⌝ }
         ensures { λ r. ⌜ def.Operates (now (regs .entry)) self w x (now (regs .exit)) r ⌝ }
     {
         // The operand before Rd: the compiled loop is faster so.
@@ -70,9 +48,8 @@ impl Hot {
         }
         let a = regs[d];
         let b = x.value as u16;
-        let code = (w / 2048) as u8;
         match code {
-            code::LD => self.load(regs, d, b, x.next, load_cost(w, x.cost)),
+            code::LD => self.load(regs, d, b, x.next, load_cost(mode, x.cost)),
             code::ADD => with(regs, d, alu::add(a, b), x.next, x.cost),
             code::SUB => with(regs, d, alu::sub(a, b), x.next, x.cost),
             code::CMP => flagged(alu::sub(a, b), x.next, x.cost),
@@ -103,7 +80,7 @@ impl Hot {
     // A quotient or a remainder, where the divisor is not 0.
     fn divide(self, regs: &mut [u16; 16], d: usize, b: u16, r: Alu, pc: u16, cost: u32) -> Hot
         requires { ⌜ (length (now regs) ≡ 16) × (d < 16) ⌝ }
-        ensures { λ r0. ⌜ def.Divided (now (regs .entry)) d b r pc cost (now (regs .exit)) r0 ⌝ }
+        ensures { λ r0. ⌜ def.Divided (now (regs .entry)) self d b r pc cost (now (regs .exit)) r0 ⌝ }
     {
         if b == 0 {
             return self.stop();
@@ -113,10 +90,9 @@ impl Hot {
 }
 
 // The states of LD: one less than those of ADD with a register.
-fn load_cost(w: u16, cost: u32) -> u32
-    ensures { λ r. ⌜ (cost ≡ addCost (modeOf w) → r ≡ loadCost (modeOf w)) ⌝ }
+fn load_cost(mode: u32, cost: u32) -> u32
+    ensures { λ r. ⌜ (cost ≡ addCost mode → r ≡ loadCost mode) ⌝ }
 {
-    let mode = w / 256 % 8;
     if mode == 4 { 4 } else { cost }
 }
 

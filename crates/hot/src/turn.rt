@@ -1,16 +1,15 @@
-// The instructions that move: stores, jumps, the stack; and the instruction of a first word.
+// The instructions that move: stores, jumps, the stack. PC is even before and after each; one that would make it odd is left to the machine.
 ghost use mathlib.Core.Path.{_≡_};
 ghost use Prim.Native.Nat.{_%_, _*_, _+_, _/_, _<_};
 ghost use lib.ListN.{getD, length};
 ghost use Rattle.decode.specs.Code.{CALL, JUMP, NO, PUSH, RET, ST};
 ghost use Rattle.mmu.specs.declared.Right.the-variants as right;
 ghost use Rattle.pages.specs.Accesses.{Reads};
+ghost use Rattle.source.specs.Fields.{modeOf};
 ghost use Rattle.word.specs.Word.{upper};
 ghost use Rattle.word.specs.declared.Width.the-variants as width;
-ghost use Rattle.hot.specs.Tells.{Added, Stored, Tells};
+ghost use Rattle.hot.specs.Tells.{Added, Led, Stored, Tells, Told};
 use crate::Hot;
-use decode::NO_CONDITION;
-use decode::code;
 use mmu::Right;
 use pages::NONE;
 use pages::NOWHERE;
@@ -25,14 +24,16 @@ use source::frame_place;
 use source::indexed_place;
 use source::register;
 use source::rx;
-use source::source_of;
 use source::wide;
 use word::Width;
 use word::minus;
 use word::plus;
 
+// The number of no condition.
+const NONE_HOLDS: u32 = decode::NO_CONDITION as u32;
+
 // What is added to the second word of a jump or of CALL: nothing, or Rx.
-fn added(regs: &[u16; 16], mode: u16, pc: u16, w: u16) -> u32
+fn added(regs: &[u16; 16], mode: u32, pc: u16, w: u32) -> u32
     ensures { λ r. ⌜ (r < 65536 → Added (now (regs .entry)) mode pc w r) ⌝ }
 {
     if mode == 0 {
@@ -50,17 +51,30 @@ fn top(regs: &[u16; 16], map: &[u16; 256], mem: &[u8]) -> u32
 }
 
 impl Hot {
-    // A jump, PC being even.
-    fn jump(self, regs: &[u16; 16], map: &[u16; 256], mem: &[u8], w: u16) -> Hot
-        requires { ⌜ (length (now regs) ≡ 16) × (length (now mem) ≡ 65536) × (self .pc % 2 ≡ 0) × (w / 2048 ≡ JUMP) ⌝ }
-        ensures { λ r. ⌜ Tells (now (map .entry)) (now (regs .entry)) (now (mem .entry)) self w (now (regs .entry)) (now (mem .entry)) r ⌝ }
+    // To another address, if that is even.
+    fn to_even(self, pc: u16, cost: u32) -> Hot
+        ensures { λ r. ⌜ Led self pc cost r ⌝ }
     {
-        let mode = w / 256 % 8;
-        if 2 <= mode {
+        if pc % 2 == 1 {
             return self.stop();
         }
+        self.to(pc, cost)
+    }
+
+    // A jump, PC being even.
+    pub(crate) fn jump(
+        self,
+        regs: &[u16; 16],
+        map: &[u16; 256],
+        mem: &[u8],
+        w: u32,
+        mode: u32,
+    ) -> Hot
+        requires { ⌜ (length (now regs) ≡ 16) × (length (now mem) ≡ 65536) × (self .pc % 2 ≡ 0) × (upper w ≡ JUMP * 8 + mode) × (mode < 2) ⌝ }
+        ensures { λ r. ⌜ Tells (now (map .entry)) (now (regs .entry)) (now (mem .entry)) self w (now (regs .entry)) (now (mem .entry)) r ⌝ }
+    {
         let n = w / 16 % 16;
-        if n == NO_CONDITION {
+        if n == NONE_HOLDS {
             return self.stop();
         }
         let add = added(regs, mode, self.pc, w);
@@ -71,21 +85,24 @@ impl Hot {
         if NOWHERE <= i {
             return self.stop();
         }
-        if self.taken(n as u8) {
-            return self.to(plus(word_at(mem, i) as u16, add as u16), 5);
+        if self.taken(n) {
+            return self.to_even(plus(word_at(mem, i) as u16, add as u16), 5);
         }
         self.to(plus(self.pc, 4), 4)
     }
 
     // CALL, PC being even.
-    fn call(self, regs: &mut [u16; 16], map: &[u16; 256], mem: &mut [u8], w: u16) -> Hot
-        requires { ⌜ (length (now regs) ≡ 16) × (length (now mem) ≡ 65536) × (self .pc % 2 ≡ 0) × (w / 2048 ≡ CALL) ⌝ }
+    pub(crate) fn call(
+        self,
+        regs: &mut [u16; 16],
+        map: &[u16; 256],
+        mem: &mut [u8],
+        w: u32,
+        mode: u32,
+    ) -> Hot
+        requires { ⌜ (length (now regs) ≡ 16) × (length (now mem) ≡ 65536) × (self .pc % 2 ≡ 0) × (upper w ≡ CALL * 8 + mode) × (mode < 2) ⌝ }
         ensures { λ r. ⌜ Tells (now (map .entry)) (now (regs .entry)) (now (mem .entry)) self w (now (regs .exit)) (now (mem .exit)) r ⌝ }
     {
-        let mode = w / 256 % 8;
-        if 2 <= mode {
-            return self.stop();
-        }
         let add = added(regs, mode, self.pc, w);
         if NONE <= add {
             return self.stop();
@@ -94,16 +111,20 @@ impl Hot {
         if NONE <= d {
             return self.stop();
         }
+        let target = plus(d as u16, add as u16);
+        if target % 2 == 1 {
+            return self.stop();
+        }
         let sp = minus(regs[SP], 2);
         if write(map, mem, Width::Word, sp as u32, plus(self.pc, 4)) {
             regs[SP] = sp;
-            return self.to(plus(d as u16, add as u16), 6);
+            return self.to(target, 6);
         }
         self.stop()
     }
 
-    fn push(self, regs: &mut [u16; 16], map: &[u16; 256], mem: &mut [u8], w: u16) -> Hot
-        requires { ⌜ (length (now regs) ≡ 16) × (length (now mem) ≡ 65536) × (upper w ≡ PUSH * 8) ⌝ }
+    pub(crate) fn push(self, regs: &mut [u16; 16], map: &[u16; 256], mem: &mut [u8], w: u32) -> Hot
+        requires { ⌜ (length (now regs) ≡ 16) × (length (now mem) ≡ 65536) × (self .pc % 2 ≡ 0) × (upper w ≡ PUSH * 8) ⌝ }
         ensures { λ r. ⌜ Tells (now (map .entry)) (now (regs .entry)) (now (mem .entry)) self w (now (regs .exit)) (now (mem .exit)) r ⌝ }
     {
         let v = register(regs, w / 16);
@@ -118,8 +139,8 @@ impl Hot {
         self.stop()
     }
 
-    fn pop(self, regs: &mut [u16; 16], map: &[u16; 256], mem: &[u8], w: u16) -> Hot
-        requires { ⌜ (length (now regs) ≡ 16) × (length (now mem) ≡ 65536) × (upper w ≡ PUSH * 8 + 4) ⌝ }
+    pub(crate) fn pop(self, regs: &mut [u16; 16], map: &[u16; 256], mem: &[u8], w: u32) -> Hot
+        requires { ⌜ (length (now regs) ≡ 16) × (length (now mem) ≡ 65536) × (self .pc % 2 ≡ 0) × (upper w ≡ PUSH * 8 + 4) ⌝ }
         ensures { λ r. ⌜ Tells (now (map .entry)) (now (regs .entry)) (now (mem .entry)) self w (now (regs .exit)) (now (mem .entry)) r ⌝ }
     {
         let d = (w / 16 % 16) as usize;
@@ -135,15 +156,14 @@ impl Hot {
         self.to(plus(self.pc, 2), 6)
     }
 
-    fn ret(self, regs: &mut [u16; 16], map: &[u16; 256], mem: &[u8], w: u16) -> Hot
-        requires { ⌜ (length (now regs) ≡ 16) × (length (now mem) ≡ 65536) × (w / 2048 ≡ RET) ⌝ }
+    pub(crate) fn ret(self, regs: &mut [u16; 16], map: &[u16; 256], mem: &[u8], w: u32) -> Hot
+        requires { ⌜ (length (now regs) ≡ 16) × (length (now mem) ≡ 65536) × (self .pc % 2 ≡ 0) × (upper w ≡ RET * 8) ⌝ }
         ensures { λ r. ⌜ Tells (now (map .entry)) (now (regs .entry)) (now (mem .entry)) self w (now (regs .exit)) (now (mem .entry)) r ⌝ }
     {
-        let mode = w / 256 % 8;
-        if mode != 0 {
+        let x = top(regs, map, mem);
+        if x % 2 == 1 {
             return self.stop();
         }
-        let x = top(regs, map, mem);
         if NONE <= x {
             return self.stop();
         }
@@ -157,7 +177,7 @@ impl Hot {
         regs: &[u16; 16],
         map: &[u16; 256],
         mem: &mut [u8],
-        w: u16,
+        w: u32,
         width: Width,
         a: u32,
         next: u16,
@@ -177,13 +197,19 @@ impl Hot {
     }
 
     // ST, PC being even.
-    fn store(self, regs: &[u16; 16], map: &[u16; 256], mem: &mut [u8], w: u16) -> Hot
-        requires { ⌜ (length (now regs) ≡ 16) × (length (now mem) ≡ 65536) × (self .pc % 2 ≡ 0) × (w / 2048 ≡ ST) ⌝ }
+    pub(crate) fn store(
+        self,
+        regs: &[u16; 16],
+        map: &[u16; 256],
+        mem: &mut [u8],
+        w: u32,
+        mode: u32,
+    ) -> Hot
+        requires { ⌜ (length (now regs) ≡ 16) × (length (now mem) ≡ 65536) × (self .pc % 2 ≡ 0) × (w / 2048 ≡ ST) × (modeOf w ≡ mode) ⌝ }
         ensures { λ r. ⌜ Tells (now (map .entry)) (now (regs .entry)) (now (mem .entry)) self w (now (regs .entry)) (now (mem .exit)) r ⌝ }
     {
         let after = plus(self.pc, 2);
         let beyond = plus(self.pc, 4);
-        let mode = w / 256 % 8;
         match mode {
             0 => {
                 let a = fetch(map, mem, after);
@@ -204,43 +230,30 @@ impl Hot {
     }
 
     // NO.
-    fn no(self, regs: &[u16; 16], map: &[u16; 256], mem: &[u8], w: u16) -> Hot
-        requires { ⌜ (length (now regs) ≡ 16) × (w / 2048 ≡ NO) ⌝ }
+    pub(crate) fn no(self, regs: &[u16; 16], map: &[u16; 256], mem: &[u8], w: u32) -> Hot
+        requires { ⌜ (length (now regs) ≡ 16) × (length (now mem) ≡ 65536) × (self .pc % 2 ≡ 0) × (upper w ≡ NO * 8) ⌝ }
         ensures { λ r. ⌜ Tells (now (map .entry)) (now (regs .entry)) (now (mem .entry)) self w (now (regs .entry)) (now (mem .entry)) r ⌝ }
     {
-        if 256 <= w {
-            return self.stop();
-        }
         self.to(plus(self.pc, 2), 3)
     }
 
-    // PUSH and POP.
-    fn stack(self, regs: &mut [u16; 16], map: &[u16; 256], mem: &mut [u8], w: u16) -> Hot
-        requires { ⌜ (length (now regs) ≡ 16) × (length (now mem) ≡ 65536) × (w / 2048 ≡ PUSH) ⌝ }
-        ensures { λ r. ⌜ Tells (now (map .entry)) (now (regs .entry)) (now (mem .entry)) self w (now (regs .exit)) (now (mem .exit)) r ⌝ }
+    // LD Rd,FLAG, `top` being E, P and I in their places in FLAG.
+    pub(crate) fn load_flag(
+        self,
+        regs: &mut [u16; 16],
+        map: &[u16; 256],
+        mem: &[u8],
+        top: u16,
+        w: u32,
+    ) -> Hot
+        requires { ⌜ (length (now regs) ≡ 16) × (self .pc % 2 ≡ 0) × (upper w ≡ ST * 8 + 4) × (top < 256) ⌝ }
+        ensures { λ r. ⌜ Told top (now (map .entry)) (now (regs .entry)) (now (mem .entry)) self w (now (regs .exit)) (now (mem .entry)) r ⌝ }
     {
-        let mode = w / 256 % 8;
-        match mode {
-            0 => self.push(regs, map, mem, w),
-            4 => self.pop(regs, map, mem, w),
-            _ => self.stop(),
+        let d = (w / 16 % 16) as usize;
+        if USP <= d {
+            return self.stop();
         }
-    }
-
-    // The instruction of a first word, PC being even.
-    pub fn turn(self, regs: &mut [u16; 16], map: &[u16; 256], mem: &mut [u8], w: u16) -> Hot
-        requires { ⌜ (length (now regs) ≡ 16) × (length (now mem) ≡ 65536) × (self .pc % 2 ≡ 0) ⌝ }
-        ensures { λ r. ⌜ Tells (now (map .entry)) (now (regs .entry)) (now (mem .entry)) self w (now (regs .exit)) (now (mem .exit)) r ⌝ }
-    {
-        let code = (w / 2048) as u8;
-        match code {
-            code::NO => self.no(regs, map, mem, w),
-            code::ST => self.store(regs, map, mem, w),
-            code::JUMP => self.jump(regs, map, mem, w),
-            code::CALL => self.call(regs, map, mem, w),
-            code::PUSH => self.stack(regs, map, mem, w),
-            code::RET => self.ret(regs, map, mem, w),
-            _ => self.operate(regs, w, source_of(regs, map, mem, self.pc, w)),
-        }
+        regs[d] = top + self.flags();
+        self.to(plus(self.pc, 2), 4)
     }
 }

@@ -2,22 +2,25 @@
 -- Assumes nothing.
 use mathlib.Core.List.{List}
 use mathlib.Core.Path.{refl, _∙_, _≡_}
-use Prim.Native.Nat.{ℕ, _<_}
+use Prim.Native.Nat.{ℕ, _+_, _<_}
 use native.Mathlib.Omega.{arith}
 use lib.ListN.{length}
 use Rattle.decode.specs.Decode.{rdField, rxField}
+use Rattle.machine.specs.Flag.{flagOf}
 use Rattle.machine.specs.Register.{regOf}
 use Rattle.machine.specs.declared.State.{State}
 use Rattle.mmu.specs.declared.Right.the-variants.{Execute}
 use Rattle.pages.specs.Accesses.{Reads}
 use Rattle.pages.specs.Maps.{access-granted}
+use Rattle.status.specs.Flag.{flagWord}
 use Rattle.word.specs.declared.Width.{Width}
 use Rattle.word.specs.declared.Width.the-variants.{Word}
 use Rattle.word.specs.Word.{plus}
 use Rattle.source.specs.Fields.{RxRead, modeOf}
 use Rattle.source.specs.Sources.{Named, Valued, by-frame, by-index, by-register, by-register-byte, by-second, field, held, loaded, second}
-use Rattle.hot.specs.Tells.{Acts, Added, Tells, Turned, sOf, zOf}
-use Rattle.hot.specs.Tells.{called, compare, compute, divide, done, idled, jumped, load, none, one, operated, passed, popped, pushed, returned, shift, stop, stored}
+use Rattle.hot.specs.Conditions.{flagBits, topOf}
+use Rattle.hot.specs.Tells.{Acts, Added, Tells, Told, Turned, sOf, zOf}
+use Rattle.hot.specs.Tells.{called, compare, compute, divide, done, flag-held, idled, jumped, load, none, one, operated, passed, plain, popped, pushed, returned, shift, stop, stored}
 use Rattle.hot.specs.declared.Hot.{Hot}
 use Rattle.source.specs.declared.operand.Source.{Source}
 use Rattle.refinement.specs.Statement.{InstructionIsStep, MapOf, hotState}
@@ -26,7 +29,7 @@ use Rattle.refinement.specs.Hot.{reg-hot, rx-hot}
 use Rattle.refinement.specs.Operands as operands
 use Rattle.refinement.specs.Operands.{Addressed, Second, Sourced, memory-read}
 use Rattle.refinement.specs.Operations.{Does}
-use Rattle.refinement.specs.Operations.{call-does, compare-does, divide-does, jump-does, load-does, next-does, no-does, pass-does, pop-does, push-does, ret-does, shift-does, store-does}
+use Rattle.refinement.specs.Operations.{call-does, compare-does, divide-does, flag-does, jump-does, load-does, next-does, no-does, pass-does, pop-does, push-does, ret-does, shift-does, store-does}
 use Rattle.refinement.specs.Opens.{opens-call, opens-jump, opens-store}
 use Rattle.refinement.specs.Results.{ByValue, difference-by-value, result-by-value}
 
@@ -128,12 +131,25 @@ module _ (b : State) {map : List ℕ} (maps : MapOf b map) (rs m : List ℕ) (h 
 
 -- ---- what a turn tells
 
-told :
+tells :
     {map rs m : List ℕ} {h : Hot} {w : ℕ} {rs′ m′ : List ℕ} {r : Hot} → Tells map rs m h w rs′ m′ r → (r .cost ≡ 0 → ⊥) → (b : State) → MapOf b map
     → Does b rs h m w rs′ (r .pc) (r .v) (r .c) (sOf r) (zOf r) m′ (r .cost)
-told (stop z p q) n b maps = absurd (n z)
-told {rs} {m} {h} {w} (done l k size s t) n b maps = turned b maps rs m h w size t
+tells (stop z p q) n b maps = absurd (n (rw z))
+tells {rs} {m} {h} {w} (done l k v size s t) n b maps = turned b maps rs m h w size t
+
+-- FLAG, of its two parts
+whole-flag : (b : State) (rs : List ℕ) (h : Hot) {top : ℕ} → top ≡ topOf (b .flags) → top + flagBits (h .v) (h .c) (sOf h) (zOf h) ≡ flagOf (hotState b rs h)
+unfolding flagWord
+whole-flag b rs h e = omega arith
+
+-- the same with LD Rd,FLAG
+told :
+    {top : ℕ} {map rs m : List ℕ} {h : Hot} {w : ℕ} {rs′ m′ : List ℕ} {r : Hot} → Told top map rs m h w rs′ m′ r → (r .cost ≡ 0 → ⊥) → (b : State)
+    → MapOf b map → top ≡ topOf (b .flags) → Does b rs h m w rs′ (r .pc) (r .v) (r .c) (sOf r) (zOf r) m′ (r .cost)
+told (plain t) n b maps e = tells t n b maps
+told {top} {rs} {m} {h} {w} (flag-held {next} f low size s x v p q z) n b maps e =
+    rw (z, q, p) (flag-does b rs size h m w next x f low (top + flagBits (h .v) (h .c) (sOf h) (zOf h)) (whole-flag b rs h e))
 
 pub carried : InstructionIsStep
-carried b map rs m h w rs′ m′ r calm maps f t n =
-    begins (hotState b rs h) m (f .at) w calm (access-granted maps (f .placed)) (f .value) ∙ told t n b maps
+carried b top map rs m h w rs′ m′ r calm maps same f t n =
+    begins (hotState b rs h) m (f .at) w calm (access-granted maps (f .placed)) (f .value) ∙ told t n b maps same

@@ -7,7 +7,7 @@ use Prim.Native.Nat.{ℕ, _*_, _+_, _<_}
 use native.Mathlib.Omega.{arith}
 use borrow.Author.Tests.{ne-eqb}
 use lib.ListN.{getD, length, length-set, set}
-use Rattle.decode.specs.Code.{CALL, CMP, JUMP, LD, NO, POP, PUSH, RET, ST}
+use Rattle.decode.specs.Code.{CALL, CMP, JUMP, LD, LDFLAG, NO, POP, PUSH, RET, ST}
 use Rattle.decode.specs.Decode.{firstOf, hasSecond, operandOf, rdBad, rdField}
 use Rattle.decode.specs.Instructions.{RdUse, addStates, condition, divStates, eight, register, row, rows, shiftStates, single, unused}
 use Rattle.decode.specs.Opcode.{costOf, inModes, inRows, modeBits, opcodeOf, statesAt}
@@ -230,6 +230,14 @@ module _ (b : State) (rs : List ℕ) (size : length rs ≡ 16) (h : Hot) (m : Li
     no-does e =
         rw (finishes {code = NO} {cost = 3} {access = data-access.None} {f = flow.Next} (opens _ refl refl) e refl
         operand.Nothing next alone 0 store.Nothing refl)
+
+    pub flag-does :
+        upper w ≡ ST * 8 + 4 → rd < 14 → (x : ℕ) → x ≡ flagOf st → Does b rs h m w (set rs rd x) next (h .v) (h .c) (sOf h) (zOf h) m 4
+    unfolding opcodeOf inRows inModes modeBits rows row eight single addStates divStates shiftStates costOf statesAt needOf transferOf endOf commit afterOperation bodyOf eventOf stored
+    flag-does e low x q =
+        rw (finishes {code = LDFLAG} {cost = 4} {access = data-access.Flag} {f = flow.Next} (opens _ refl refl) e (low-register rd low)
+        operand.Nothing next alone x store.Nothing (rw q))
+        (ap (λ (y : State). did y m 4) (with-hot b rs next (h .v) (h .c) (sOf h) (zOf h) size rd x low))
 
     pub push-does :
         upper w ≡ PUSH * 8 → rd < 14 → (sp at : ℕ) → sp ≡ minus (getD rs 13 0) 2 → Grants b Write sp at

@@ -16,7 +16,8 @@ use Rattle.mmu.specs.declared.Right.the-variants.{Execute}
 use Rattle.pages.specs.Accesses.{Reads}
 use Rattle.pages.specs.Maps.{Mapped}
 use Rattle.word.specs.declared.Width.the-variants.{Word}
-use Rattle.hot.specs.Tells.{Tells, sOf, zOf}
+use Rattle.hot.specs.Conditions.{topOf}
+use Rattle.hot.specs.Tells.{Told, sOf, zOf}
 use Rattle.hot.specs.declared.Hot.{Hot}
 
 -- ---- the correspondence
@@ -53,10 +54,11 @@ did st m n = record { state = st; memory = m; event = Executed n }
 
 -- ---- the theorem
 
--- `carried`: an instruction that is carried out as `Hot::turn` promises (`Tells`), its first word w being the one that the map gives at PC, is the
--- machine's step on every state with this map in which no interrupt is due: the same registers, PC, flags, memory and states, and nothing else changes
+-- `carried`: an instruction that is carried out as `Hot::low` and `Hot::high` promise (`Told`, `top` being E, P and I in their places in FLAG), its first
+-- word w being the one that the map gives at PC, is the machine's step on every state with this map in which no interrupt is due: the same registers, PC,
+-- flags, memory and states, and nothing else changes
 abbrev pub InstructionIsStep : Type 0
 InstructionIsStep =
-    (b : State) (map rs m : List ℕ) (h : Hot) (w : ℕ) (rs′ m′ : List ℕ) (r : Hot) → interrupted b ≡ false → MapOf b map
-    → Reads map m Execute Word (h .pc) w → Tells map rs m h w rs′ m′ r → (r .cost ≡ 0 → ⊥)
+    (b : State) (top : ℕ) (map rs m : List ℕ) (h : Hot) (w : ℕ) (rs′ m′ : List ℕ) (r : Hot) → interrupted b ≡ false → MapOf b map
+    → top ≡ topOf (b .flags) → Reads map m Execute Word (h .pc) w → Told top map rs m h w rs′ m′ r → (r .cost ≡ 0 → ⊥)
     → stepOf (hotState b rs h) m ≡ did (hotState b rs′ r) m′ (r .cost)

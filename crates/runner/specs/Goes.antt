@@ -3,7 +3,7 @@
 use mathlib.Core.Bool.{false, _&&_}
 use mathlib.Core.List.{List}
 use mathlib.Core.Path.{ap, _∙_, _≡_}
-use Prim.Native.Nat.{suc, ℕ, _+_}
+use Prim.Native.Nat.{suc, ℕ, _%_, _+_}
 use native.Mathlib.Nat.{add-zero}
 use native.Mathlib.Omega.{arith}
 use Rattle.machine.specs.Plan.{interrupted}
@@ -15,7 +15,8 @@ use Rattle.mmu.specs.declared.Right.the-variants.{Execute}
 use Rattle.pages.specs.Accesses.{Reads}
 use Rattle.word.specs.declared.Width.the-variants.{Word}
 use Rattle.refinement.specs.Statement.{MapOf, did, hotState}
-use Rattle.hot.specs.Tells.{Tells, stopped}
+use Rattle.hot.specs.Conditions.{topOf}
+use Rattle.hot.specs.Tells.{Told, stopped}
 use Rattle.refinement.specs.Carried.{carried}
 use Rattle.hot.specs.declared.Hot.{Hot}
 
@@ -43,29 +44,30 @@ goes-run {st} {m} (more {steps} {states} {n} {st′} {st″} {m′} {m″} g c e
 
 -- ---- the loop
 
--- a machine that runs, with no interrupt due, and not both S and Z
+-- a machine that runs, with no interrupt due, not both S and Z, and an even PC
 pub record Ready (b : State) : Type 0 where
   pub running : b .condition ≡ Running
   pub calm : interrupted b ≡ false
   pub apart : (b .flags .s && b .flags .z) ≡ false
+  pub even : b .pc % 2 ≡ 0
 
--- `steps` instructions on every such machine whose pages the map gives
-pub record Leads (map rs m : List ℕ) (h : Hot) (steps states : ℕ) (rs′ m′ : List ℕ) (h′ : Hot) : Type 0 where
-  pub goes : (b : State) → Ready b → MapOf b map → Goes (hotState b rs h) m steps states (hotState b rs′ h′) m′
+-- `steps` instructions on every such machine whose pages the map gives, with E, P and I of FLAG as in `top`
+pub record Leads (top : ℕ) (map rs m : List ℕ) (h : Hot) (steps states : ℕ) (rs′ m′ : List ℕ) (h′ : Hot) : Type 0 where
+  pub goes : (b : State) → Ready b → MapOf b map → top ≡ topOf (b .flags) → Goes (hotState b rs h) m steps states (hotState b rs′ h′) m′
 
-pub no-step : {map rs m : List ℕ} {h : Hot} → Leads map rs m h 0 0 rs m h
-no-step = record { goes = λ b ready maps. none }
+pub no-step : {top : ℕ} {map rs m : List ℕ} {h : Hot} → Leads top map rs m h 0 0 rs m h
+no-step = record { goes = λ b ready maps same. none }
 
-module _ {map rs m : List ℕ} {h : Hot} {steps states : ℕ} {rs′ m′ : List ℕ} {h′ : Hot} (l : Leads map rs m h steps states rs′ m′ h′) where
+module _ {top : ℕ} {map rs m : List ℕ} {h : Hot} {steps states : ℕ} {rs′ m′ : List ℕ} {h′ : Hot} (l : Leads top map rs m h steps states rs′ m′ h′) where
   pub one-more :
-      {w : ℕ} {rs″ m″ : List ℕ} {r : Hot} → Reads map m′ Execute Word (h′ .pc) w → Tells map rs′ m′ h′ w rs″ m″ r → (r .cost ≡ 0 → ⊥)
-      → Leads map rs m h (steps + 1) (states + r .cost) rs″ m″ r
+      {w : ℕ} {rs″ m″ : List ℕ} {r : Hot} → Reads map m′ Execute Word (h′ .pc) w → Told top map rs′ m′ h′ w rs″ m″ r → (r .cost ≡ 0 → ⊥)
+      → Leads top map rs m h (steps + 1) (states + r .cost) rs″ m″ r
   one-more {w} {rs″} {m″} {r} f t n =
       record {
-        goes = λ b ready maps.
-            more (l .goes b ready maps) (ready .running) (carried b map rs′ m′ h′ w rs″ m″ r (ready .calm) maps f t n);
+        goes = λ b ready maps same.
+            more (l .goes b ready maps same) (ready .running) (carried b top map rs′ m′ h′ w rs″ m″ r (ready .calm) maps same f t n);
       }
 
   pub no-more :
-      {w : ℕ} {rs″ m″ : List ℕ} {r : Hot} → Tells map rs′ m′ h′ w rs″ m″ r → r .cost ≡ 0 → Leads map rs m h steps states rs″ m″ h′
-  no-more t e = let k = stopped t e in rw (k .0, k .1) l
+      {w : ℕ} {rs″ m″ : List ℕ} {r : Hot} → Told top map rs′ m′ h′ w rs″ m″ r → r .cost ≡ 0 → Leads top map rs m h steps states rs″ m″ r
+  no-more t e = let k = stopped t e in record { goes = λ b ready maps same. rw (k .0, k .1, k .2) (l .goes b ready maps same) }

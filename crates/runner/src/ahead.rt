@@ -9,6 +9,7 @@ ghost use Rattle.refinement.specs.Statement.{hot, hotState};
 use crate::Part;
 use crate::quick::quick;
 use hot::Hot;
+use hot::upper_flags;
 use machine::Condition;
 use machine::State;
 use pages::page_map;
@@ -101,14 +102,8 @@ fn stretch(state: State, mem: &mut [u8], allowance: u16) -> Part
         cost: 0,
     };
     let tlb = state.tlb;
-    // For each mode by itself: the compiled loop is faster so.
-    let q = if state.translates() {
-        let map = page_map(true, tlb);
-        quick(first, &mut regs, &map, mem, allowance)
-    } else {
-        let map = page_map(false, tlb);
-        quick(first, &mut regs, &map, mem, allowance)
-    };
+    let map = page_map(state.translates(), tlb);
+    let q = quick(first, &mut regs, &map, mem, upper_flags(f), allowance);
     let last = q.hot;
     Part {
         state: gather(state, regs, last),
@@ -117,12 +112,13 @@ fn stretch(state: State, mem: &mut [u8], allowance: u16) -> Part
     }
 }
 
-// Whether plain instructions may be carried out: the machine runs, no interrupt is due, and its S and Z are those of a result.
+// Whether plain instructions may be carried out: the machine runs, no interrupt is due, its S and Z are those of a result, and PC is even, as it
+// then stays.
 fn ready(state: State) -> bool
     ensures { λ r. ⌜ (r ≡ true → Ready state) ⌝ }
 {
     let f = state.flags;
-    let calm = !state.interrupted() & !(f.s & f.z);
+    let calm = !state.interrupted() & !(f.s & f.z) & (state.pc % 2 == 0);
     let condition = state.condition;
     match condition {
         Condition::Running => calm,

@@ -3,6 +3,7 @@
 use mathlib.Core.List.{List}
 use mathlib.Core.Path.{refl, _≡_}
 use Prim.Native.Nat.{ℕ, _%_, _<_}
+use native.Mathlib.Omega.{arith}
 use Rattle.decode.specs.Decode.{rxField}
 use Rattle.decode.specs.Instructions.{addStates, eight}
 use Rattle.decode.specs.Opcode.{statesAt}
@@ -42,6 +43,7 @@ pub data Valued (rs map m : List ℕ) (pc w : ℕ) : ℕ → ℕ → ℕ → Typ
 
 pub record SourceIs (rs map m : List ℕ) (pc w : ℕ) (r : Source) : Type 0 where
   pub cost : r .cost ≡ addCost (modeOf w)
+  pub even : r .next % 2 ≡ 0
   pub valued : r .value < 65536 → Valued rs map m pc w (modeOf w) (r .value) (r .next)
 
 module _ (rs map m : List ℕ) (pc w next : ℕ) where
@@ -67,7 +69,7 @@ module _ (rs map m : List ℕ) (pc w next : ℕ) where
 
   -- ---- values
 
-  module _ (x : ℕ) where
+  module _ (even : pc % 2 ≡ 0) (x : ℕ) where
     abbrev Is : ℕ → Type 0
     Is cost = SourceIs rs map m pc w (record { value = x; next = next; cost = cost })
 
@@ -80,33 +82,33 @@ module _ (rs map m : List ℕ) (pc w next : ℕ) where
     module _ (n : next ≡ plus pc 4) (d : ℕ) (fetch : d < 65536 → Reads map m Execute Word (plus pc 2) d) where
       pub direct-source : modeOf w ≡ 0 → (x < 65536 → Reads map m Read Word d x) → Is 7
       unfolding addCost statesAt eight addStates
-      direct-source e read = record { cost = rw e; valued = rw e (read-valued (direct-named n d fetch) read) }
+      direct-source e read = record { cost = rw e; even = omega arith; valued = rw e (read-valued (direct-named n d fetch) read) }
 
       pub indexed-source : modeOf w ≡ 1 → (a : ℕ) → a ≡ indexedAddress rs next d w → (x < 65536 → Reads map m Read Word a x) → Is 7
       unfolding addCost statesAt eight addStates
-      indexed-source e a place read = record { cost = rw e; valued = rw e (read-valued (indexed-named n d fetch a place) read) }
+      indexed-source e a place read = record { cost = rw e; even = omega arith; valued = rw e (read-valued (indexed-named n d fetch a place) read) }
 
       pub immediate-source : modeOf w ≡ 2 → x ≡ d → Is 5
       unfolding addCost statesAt eight addStates
-      immediate-source e q = record { cost = rw e; valued = rw (e, q) (λ l. second n (fetch l)) }
+      immediate-source e q = record { cost = rw e; even = omega arith; valued = rw (e, q) (λ l. second n (fetch l)) }
 
     module _ (n : next ≡ plus pc 2) where
       pub frame-source : modeOf w ≡ 3 → (a : ℕ) → a ≡ framePlace rs w → (x < 65536 → Reads map m Read Word a x) → Is 7
       unfolding addCost statesAt eight addStates
-      frame-source e a f read = record { cost = rw e; valued = rw e (read-valued (frame-named n a f) read) }
+      frame-source e a f read = record { cost = rw e; even = omega arith; valued = rw e (read-valued (frame-named n a f) read) }
 
       pub register-source : modeOf w ≡ 4 → x ≡ rxValue rs next (w % 16) → Is 5
       unfolding addCost statesAt eight addStates
-      register-source e r = record { cost = rw e; valued = rw e (λ l. held n (rx-read r l)) }
+      register-source e r = record { cost = rw e; even = omega arith; valued = rw e (λ l. held n (rx-read r l)) }
 
       pub short-source : modeOf w ≡ 5 → x ≡ shortOf (rxField w) → Is 4
       unfolding addCost statesAt eight addStates
-      short-source e f = record { cost = rw e; valued = rw e (λ l. field n f) }
+      short-source e f = record { cost = rw e; even = omega arith; valued = rw e (λ l. field n f) }
 
       pub indirect-source : modeOf w ≡ 6 → (a : ℕ) → a ≡ rxValue rs next (w % 16) → (x < 65536 → Reads map m Read Word a x) → Is 6
       unfolding addCost statesAt eight addStates
-      indirect-source e a place read = record { cost = rw e; valued = rw e (read-valued (indirect-named n a place) read) }
+      indirect-source e a place read = record { cost = rw e; even = omega arith; valued = rw e (read-valued (indirect-named n a place) read) }
 
       pub byte-source : modeOf w ≡ 7 → (a : ℕ) → a ≡ rxValue rs next (w % 16) → (x < 65536 → Reads map m Read Byte a x) → Is 6
       unfolding addCost statesAt eight addStates
-      byte-source e a place read = record { cost = rw e; valued = rw e (read-valued (byte-named n a place) read) }
+      byte-source e a place read = record { cost = rw e; even = omega arith; valued = rw e (read-valued (byte-named n a place) read) }

@@ -3,7 +3,7 @@ ghost use mathlib.Core.Path.{_≡_};
 ghost use Prim.Native.Nat.{_%_};
 ghost use lib.ListN.{length};
 ghost use Rattle.decode.specs.Decode.{rxField};
-ghost use Rattle.source.specs.Fields.{framePlace, indexedAddress, shortOf};
+ghost use Rattle.source.specs.Fields.{framePlace, indexedAddress, modeOf, shortOf};
 ghost use Rattle.source.specs.Sources.{SourceIs};
 use crate::registers::FP;
 use crate::registers::rx;
@@ -25,21 +25,21 @@ pub struct Source {
 }
 
 // The four-bit field, signed, as a word.
-fn short(w: u16) -> u16
+fn short(w: u32) -> u16
     ensures { λ r. ⌜ r ≡ shortOf (rxField w) ⌝ }
 {
-    to_word(sign_extend(w % 16))
+    to_word(sign_extend((w % 16) as u16))
 }
 
 // FP plus twice D4.
-pub fn frame_place(regs: &[u16; 16], w: u16) -> u16
+pub fn frame_place(regs: &[u16; 16], w: u32) -> u16
     ensures { λ r. ⌜ r ≡ framePlace (now (regs .entry)) w ⌝ }
 {
-    plus(regs[FP], to_word(frame_offset(w % 16)))
+    plus(regs[FP], to_word(frame_offset((w % 16) as u16)))
 }
 
 // A displacement plus Rx, `next` being the address of the following instruction.
-pub fn indexed_place(regs: &[u16; 16], next: u16, d: u32, w: u16) -> u32
+pub fn indexed_place(regs: &[u16; 16], next: u16, d: u32, w: u32) -> u32
     ensures { λ r. ⌜ r ≡ indexedAddress (now (regs .entry)) next d w ⌝ }
 {
     let x = rx(regs, next, w);
@@ -58,14 +58,20 @@ fn operand(value: u32, next: u16, cost: u32) -> Source
     Source { value, next, cost }
 }
 
-// The operand of LD and of ADD to SHRL, PC being even.
-pub fn source_of(regs: &[u16; 16], map: &[u16; 256], mem: &[u8], pc: u16, w: u16) -> Source
-    requires { ⌜ (length (now mem) ≡ 65536) × (pc % 2 ≡ 0) ⌝ }
+// The operand of LD and of ADD to SHRL in this mode, PC being even. The mode is a number of its own so that a caller can give it as a constant.
+pub fn source_of(
+    regs: &[u16; 16],
+    map: &[u16; 256],
+    mem: &[u8],
+    pc: u16,
+    w: u32,
+    mode: u32,
+) -> Source
+    requires { ⌜ (length (now mem) ≡ 65536) × (pc % 2 ≡ 0) × (modeOf w ≡ mode) ⌝ }
     ensures { λ r. ⌜ SourceIs (now (regs .entry)) (now (map .entry)) (now (mem .entry)) pc w r ⌝ }
 {
     let after = plus(pc, 2);
     let beyond = plus(pc, 4);
-    let mode = w / 256 % 8;
     match mode {
         0 => operand(
             read(map, mem, Width::Word, fetch(map, mem, after)),

@@ -11,7 +11,7 @@ pub const SP: usize = decode::register::SP as usize;
 
 pub const USP: usize = decode::register::USP as usize;
 
-const PC: u16 = decode::register::PC as u16;
+const PC: u32 = decode::register::PC as u32;
 
 pub fn wide(x: u16) -> u32
     ensures { λ r. ⌜ r ≡ x ⌝ }
@@ -20,7 +20,7 @@ pub fn wide(x: u16) -> u32
 }
 
 // A register below 14, by the lowest four bits of `n`.
-pub fn register(regs: &[u16; 16], n: u16) -> u32
+pub fn register(regs: &[u16; 16], n: u32) -> u32
     ensures { λ r. ⌜ r ≡ registerValue (now (regs .entry)) (n % 16) ⌝ }
 {
     let k = (n % 16) as usize;
@@ -31,7 +31,7 @@ pub fn register(regs: &[u16; 16], n: u16) -> u32
 }
 
 // Rs or Rx, by the lowest four bits of `w`: a register below 14, with 15 the address of the following instruction, with 14 none.
-pub fn rx(regs: &[u16; 16], next: u16, w: u16) -> u32
+pub fn rx(regs: &[u16; 16], next: u16, w: u32) -> u32
     ensures { λ r. ⌜ r ≡ rxValue (now (regs .entry)) next (w % 16) ⌝ }
 {
     let x = register(regs, w);

@@ -1,11 +1,11 @@
 -- `hot::Hot::operate` meets its contract.
 -- Assumes nothing.
-use mathlib.Core.Path.{refl}
+use mathlib.Core.Path.{refl, _∙_, _≡_}
 use native.Mathlib.Omega.{arith}
 use borrow.Author.Needs.{needs}
 use Rattle.plan.specs.Result.{aluOf}
 use Rattle.hot.specs.Arms.{compare-operates, cost-below, divided-operates, load-above, load-below, load-operates, next-operates, shift-operates}
-use Rattle.source.specs.Rows.{add, adds, and, div, modulo, mul, or, shla, shll, shra, shrl, sub, xor}
+use Rattle.source.specs.Rows.{add, adds, and, div, loadCost, modulo, mul, or, shla, shll, shra, shrl, sub, xor}
 use Rattle.source.specs.Fields.{modeOf}
 use Rattle.hot.specs.Tells.{stay}
 use Rattle.hot.proofs.Hot.operate.Statement.{statement}
@@ -34,9 +34,6 @@ element-copy-out-a c = search needs
 
 cast-b : tie.Need-cast-b
 cast-b c = search needs
-
-cast-code : tie.Need-cast-code
-cast-code c = search needs
 
 load-cost-requires : tie.Need-load-cost-requires
 load-cost-requires c κs = search needs
@@ -243,10 +240,10 @@ returns-3 : tie.Need-returns-3
 returns-3 c =
     let pre′ = c .before .before .before .before .before .before .before .before .before .pre in
     let a = c .before .before .before .before .before .before .before .before .before .args in
-    let q = c .before .load-cost .ensures (pre′ .1) in
+    let q : c .before .load-cost .result ≡ loadCost (modeOf (a .w)) = rw (pre′ .3) (c .before .load-cost .ensures (rw (pre′ .3) at (pre′ .1))) in
     rw (c .load .ensures .0, c .load .ensures .1) (load-operates (a .regs .now) (pre′ .0) (a .self) (a .w) (a .x) (pre′ .1)
     (omega (arith, c .before .before .before .before .before .before .if2 .left))
-    (c .before .before .before .before .before .before .before .if1 .left) (c .before .before .before .match .keys1) (c .before .load-cost .result) q
+    (c .before .before .before .before .before .before .before .if1 .left) (pre′ .2 ∙ c .before .before .before .match .keys1) (c .before .load-cost .result) q
     (omega (arith, q, load-above (modeOf (a .w)) (omega arith))) (omega (arith, q, load-below (modeOf (a .w)) (omega arith))))
 
 returns-4 : tie.Need-returns-4
@@ -257,7 +254,7 @@ returns-4 c =
     rw (c .with .ensures .0, c .with .ensures .1) (next-operates (a .regs .now) (pre′ .0) (a .self) (a .w) (a .x) (pre′ .1)
     (omega (arith, c .before .before .before .before .before .before .if2 .left))
     (c .before .before .before .before .before .before .before .if1 .left) (c .before .add .result) (c .before .add .ensures) (λ q. omega arith)
-    (c .before .before .before .match .keys2) (omega arith) _ add (omega arith))
+    (pre′ .2 ∙ c .before .before .before .match .keys2) (omega arith) _ add (omega arith))
 
 returns-5 : tie.Need-returns-5
 unfolding aluOf
@@ -267,7 +264,7 @@ returns-5 c =
     rw (c .with2 .ensures .0, c .with2 .ensures .1) (next-operates (a .regs .now) (pre′ .0) (a .self) (a .w) (a .x) (pre′ .1)
     (omega (arith, c .before .before .before .before .before .before .if2 .left))
     (c .before .before .before .before .before .before .before .if1 .left) (c .before .sub .result) (c .before .sub .ensures) (λ q. omega arith)
-    (c .before .before .before .match .keys3) (omega arith) _ sub (omega arith))
+    (pre′ .2 ∙ c .before .before .before .match .keys3) (omega arith) _ sub (omega arith))
 
 returns-6 : tie.Need-returns-6
 returns-6 c =
@@ -275,7 +272,7 @@ returns-6 c =
     let pre′ = c .before .before .before .before .before .before .before .before .pre in
     rw (c .flagged .ensures) (compare-operates (a .regs .now) (pre′ .0) (a .self) (a .w) (a .x) (pre′ .1)
     (omega (arith, c .before .before .before .before .before .if2 .left)) (c .before .before .before .before .before .before .if1 .left)
-    (c .before .sub2 .result) (c .before .before .match .keys4) (c .before .sub2 .ensures))
+    (c .before .sub2 .result) (pre′ .2 ∙ c .before .before .match .keys4) (c .before .sub2 .ensures))
 
 returns-7 : tie.Need-returns-7
 unfolding aluOf
@@ -285,7 +282,7 @@ returns-7 c =
     rw (c .with3 .ensures .0, c .with3 .ensures .1) (next-operates (a .regs .now) (pre′ .0) (a .self) (a .w) (a .x) (pre′ .1)
     (omega (arith, c .before .before .before .before .before .before .if2 .left))
     (c .before .before .before .before .before .before .before .if1 .left) (c .before .and .result) (c .before .and .ensures) (λ q. omega arith)
-    (c .before .before .before .match .keys5) (omega arith) _ and (omega arith))
+    (pre′ .2 ∙ c .before .before .before .match .keys5) (omega arith) _ and (omega arith))
 
 returns-8 : tie.Need-returns-8
 unfolding aluOf
@@ -295,7 +292,7 @@ returns-8 c =
     rw (c .with4 .ensures .0, c .with4 .ensures .1) (next-operates (a .regs .now) (pre′ .0) (a .self) (a .w) (a .x) (pre′ .1)
     (omega (arith, c .before .before .before .before .before .before .if2 .left))
     (c .before .before .before .before .before .before .before .if1 .left) (c .before .or .result) (c .before .or .ensures) (λ q. omega arith)
-    (c .before .before .before .match .keys6) (omega arith) _ or (omega arith))
+    (pre′ .2 ∙ c .before .before .before .match .keys6) (omega arith) _ or (omega arith))
 
 returns-9 : tie.Need-returns-9
 unfolding aluOf
@@ -305,7 +302,7 @@ returns-9 c =
     rw (c .with5 .ensures .0, c .with5 .ensures .1) (next-operates (a .regs .now) (pre′ .0) (a .self) (a .w) (a .x) (pre′ .1)
     (omega (arith, c .before .before .before .before .before .before .if2 .left))
     (c .before .before .before .before .before .before .before .if1 .left) (c .before .xor .result) (c .before .xor .ensures) (λ q. omega arith)
-    (c .before .before .before .match .keys7) (omega arith) _ xor (omega arith))
+    (pre′ .2 ∙ c .before .before .before .match .keys7) (omega arith) _ xor (omega arith))
 
 returns-10 : tie.Need-returns-10
 unfolding aluOf
@@ -315,7 +312,7 @@ returns-10 c =
     rw (c .with6 .ensures .0, c .with6 .ensures .1) (next-operates (a .regs .now) (pre′ .0) (a .self) (a .w) (a .x) (pre′ .1)
     (omega (arith, c .before .before .before .before .before .before .before .if2 .left))
     (c .before .before .before .before .before .before .before .before .if1 .left) (c .before .before .adds .result) (c .before .before .adds .ensures)
-    (λ q. omega arith) (c .before .before .before .before .match .keys8) (omega arith) _ adds refl)
+    (λ q. omega arith) (pre′ .2 ∙ c .before .before .before .before .match .keys8) (omega arith) _ adds refl)
 
 returns-11 : tie.Need-returns-11
 unfolding aluOf
@@ -325,7 +322,7 @@ returns-11 c =
     rw (c .with7 .ensures .0, c .with7 .ensures .1) (next-operates (a .regs .now) (pre′ .0) (a .self) (a .w) (a .x) (pre′ .1)
     (omega (arith, c .before .before .before .before .before .before .before .if2 .left))
     (c .before .before .before .before .before .before .before .before .if1 .left) (c .before .before .mul .result) (c .before .before .mul .ensures)
-    (λ q. omega arith) (c .before .before .before .before .match .keys9) (omega arith) _ mul refl)
+    (λ q. omega arith) (pre′ .2 ∙ c .before .before .before .before .match .keys9) (omega arith) _ mul refl)
 
 returns-12 : tie.Need-returns-12
 unfolding aluOf
@@ -335,7 +332,7 @@ returns-12 c =
     divided-operates (a .regs .now) (pre′ .0) (a .self) (a .w) (a .x) (pre′ .1)
     (omega (arith, c .before .before .before .before .before .before .before .if2 .left))
     (c .before .before .before .before .before .before .before .before .if1 .left) (c .before .before .div .result) (c .before .before .div .ensures)
-    (λ q. omega arith) (c .before .before .before .before .match .keys10) (omega arith) _ div refl (c .divide .ensures)
+    (λ q. omega arith) (pre′ .2 ∙ c .before .before .before .before .match .keys10) (omega arith) _ div refl (c .divide .ensures)
 
 returns-13 : tie.Need-returns-13
 unfolding aluOf
@@ -345,7 +342,7 @@ returns-13 c =
     divided-operates (a .regs .now) (pre′ .0) (a .self) (a .w) (a .x) (pre′ .1)
     (omega (arith, c .before .before .before .before .before .before .before .if2 .left))
     (c .before .before .before .before .before .before .before .before .if1 .left) (c .before .before .modulo .result) (c .before .before .modulo .ensures)
-    (λ q. omega arith) (c .before .before .before .before .match .keys11) (omega arith) _ modulo refl (c .divide2 .ensures)
+    (λ q. omega arith) (pre′ .2 ∙ c .before .before .before .before .match .keys11) (omega arith) _ modulo refl (c .divide2 .ensures)
 
 returns-14 : tie.Need-returns-14
 unfolding aluOf
@@ -356,7 +353,7 @@ returns-14 c =
     rw (c .with8 .ensures .0, c .with8 .ensures .1) (shift-operates (a .regs .now) (pre′ .0) (a .self) (a .w) (a .x) (pre′ .1)
     (omega (arith, c .before .before .before .before .before .before .before .before .if2 .left))
     (c .before .before .before .before .before .before .before .before .before .if1 .left) (shl′ .result) (shl′ .ensures) (λ q. omega arith)
-    (c .before .before .before .before .before .match .keys12) (omega arith) _ shla refl)
+    (pre′ .2 ∙ c .before .before .before .before .before .match .keys12) (omega arith) _ shla refl)
 
 returns-15 : tie.Need-returns-15
 unfolding aluOf
@@ -367,7 +364,7 @@ returns-15 c =
     rw (c .with9 .ensures .0, c .with9 .ensures .1) (shift-operates (a .regs .now) (pre′ .0) (a .self) (a .w) (a .x) (pre′ .1)
     (omega (arith, c .before .before .before .before .before .before .before .before .if2 .left))
     (c .before .before .before .before .before .before .before .before .before .if1 .left) (shl2′ .result) (shl2′ .ensures) (λ q. omega arith)
-    (c .before .before .before .before .before .match .keys13) (omega arith) _ shll refl)
+    (pre′ .2 ∙ c .before .before .before .before .before .match .keys13) (omega arith) _ shll refl)
 
 returns-16 : tie.Need-returns-16
 unfolding aluOf
@@ -378,7 +375,7 @@ returns-16 c =
     rw (c .with10 .ensures .0, c .with10 .ensures .1) (shift-operates (a .regs .now) (pre′ .0) (a .self) (a .w) (a .x) (pre′ .1)
     (omega (arith, c .before .before .before .before .before .before .before .before .if2 .left))
     (c .before .before .before .before .before .before .before .before .before .if1 .left) (shra′ .result) (shra′ .ensures) (λ q. omega arith)
-    (c .before .before .before .before .before .match .keys14) (omega arith) _ shra refl)
+    (pre′ .2 ∙ c .before .before .before .before .before .match .keys14) (omega arith) _ shra refl)
 
 returns-17 : tie.Need-returns-17
 unfolding aluOf
@@ -389,7 +386,7 @@ returns-17 c =
     rw (c .with11 .ensures .0, c .with11 .ensures .1) (shift-operates (a .regs .now) (pre′ .0) (a .self) (a .w) (a .x) (pre′ .1)
     (omega (arith, c .before .before .before .before .before .before .before .before .if2 .left))
     (c .before .before .before .before .before .before .before .before .before .if1 .left) (shrl′ .result) (shrl′ .ensures) (λ q. omega arith)
-    (c .before .before .before .before .before .match .keys15) (omega arith) _ shrl refl)
+    (pre′ .2 ∙ c .before .before .before .before .before .match .keys15) (omega arith) _ shrl refl)
 
 returns-18 : tie.Need-returns-18
 returns-18 c = stay (c .stop3 .ensures) refl
@@ -406,7 +403,6 @@ operate-spec =
     mul-a
     element-copy-out-a
     cast-b
-    cast-code
     load-cost-requires
     load-requires
     add-requires

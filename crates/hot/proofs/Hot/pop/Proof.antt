@@ -55,8 +55,8 @@ returns-3 c =
     let start = c .before .before .before .before .before .before .before .before .before in
     let a = start .args in
     let read = c .before .before .before .before .before in
-    rw (c .to .ensures) (pop-tells (a .map .now) (a .regs .now) (start .pre .0) (a .mem .now) (a .self) (a .w) (c .before .plus2 .result)
-    (c .before .plus2 .ensures) (start .pre .2) (omega (arith, c .before .before .before .before .before .before .before .if1 .left))
+    rw (c .to .ensures) (pop-tells (a .map .now) (a .regs .now) (start .pre .0) (a .mem .now) (a .self) (a .w) (start .pre .2) (c .before .plus2 .result)
+    (c .before .plus2 .ensures) (start .pre .3) (omega (arith, c .before .before .before .before .before .before .before .if1 .left))
     (c .before .before .plus .result) (read .top .result) (c .before .before .plus .ensures) (read .top .ensures (c .before .before .before .before .if2 .left)))
 
 pub pop-spec : {M : Type 1} → statement M

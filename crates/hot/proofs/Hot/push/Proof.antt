@@ -52,8 +52,8 @@ returns-2 c =
     let minus′ = c .before .before .before .before .before .before .before .minus in
     let r = register-read (c .before .before .before .before .before .before .before .before .before .before .register .ensures)
     (c .before .before .before .before .before .before .before .before .before .if1 .left) in
-    rw (c .to .ensures) (push-tells (a .map .now) (a .regs .now) (pre′ .0) (a .mem .now) (a .self) (a .w) (c .before .plus .result)
-    (c .before .plus .ensures) (pre′ .2) (r .low) (minus′ .result) (minus′ .ensures)
+    rw (c .to .ensures) (push-tells (a .map .now) (a .regs .now) (pre′ .0) (a .mem .now) (a .self) (a .w) (pre′ .2) (c .before .plus .result)
+    (c .before .plus .ensures) (pre′ .3) (r .low) (minus′ .result) (minus′ .ensures)
     (rw (r .value) at (wrote (c .before .before .before .before .before .write .ensures) (c .before .before .if2 .taken))))
 
 stop-requires-2 : tie.Need-stop-requires-2

@@ -2,20 +2,20 @@
 -- Assumes nothing.
 use mathlib.Core.Path.{refl}
 use native.Mathlib.Omega.{arith}
-use borrow.Author.Needs.{needs}
 use Rattle.hot.specs.Moves.{ret-tells}
 use Rattle.hot.specs.Tells.{stop}
+use borrow.Author.Needs.{needs}
 use Rattle.hot.proofs.Hot.ret.Statement.{statement}
 use Rattle.hot.proofs.Hot.ret.Tie as tie
+
+top-requires : tie.Need-top-requires
+top-requires c κs = search needs
 
 stop-requires : tie.Need-stop-requires
 stop-requires c κs = search needs
 
 returns : tie.Need-returns
 returns c = stop (c .stop .ensures) refl refl
-
-top-requires : tie.Need-top-requires
-top-requires c κs = search needs
 
 stop-requires-2 : tie.Need-stop-requires-2
 stop-requires-2 c κs = search needs
@@ -42,18 +42,18 @@ returns-3 : tie.Need-returns-3
 returns-3 c =
     let start = c .before .before .before .before .before .before .before .before in
     let a = start .args in
-    let read = c .before .before .before .before in
-    rw (c .to .ensures) (ret-tells (a .map .now) (a .regs .now) (start .pre .0) (a .mem .now) (a .self) (a .w)
-    (omega (arith, start .pre .2, c .before .before .before .before .before .before .if1 .left)) (c .before .plus .result) (read .top .result)
-    (c .before .plus .ensures) (read .top .ensures (c .before .before .before .if2 .left)))
+    let top′ = c .before .before .before .before .before .top in
+    rw (c .to .ensures) (ret-tells (a .map .now) (a .regs .now) (start .pre .0) (a .mem .now) (a .self) (a .w) (start .pre .2) (start .pre .3)
+    (c .before .plus .result) (top′ .result) (omega (arith, c .before .before .before .before .if1 .left)) (c .before .plus .ensures)
+    (top′ .ensures (c .before .before .before .if2 .left)))
 
 pub ret-spec : {M : Type 1} → statement M
 ret-spec =
     tie.close
     (tie.spec
+    top-requires
     stop-requires
     returns
-    top-requires
     stop-requires-2
     returns-2
     element-copy-out-plus

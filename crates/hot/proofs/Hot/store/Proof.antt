@@ -63,8 +63,8 @@ returns c =
     let a = p .before .before .before .args in
     let pre′ = p .before .before .before .pre in
     let fetch′ = c .before .before .before .before .fetch in
-    store-tells (a .map .now) (a .regs .now) (pre′ .0) (a .mem .now) (a .self) (a .w) (pre′ .3) 0
-    (c .before .before .before .before .before .before .match .keys1) direct (omega arith) (omega arith)
+    store-tells (a .map .now) (a .regs .now) (pre′ .0) (a .mem .now) (a .self) (a .w) (pre′ .2) (pre′ .3) 0
+    (pre′ .4 ∙ c .before .before .before .before .before .before .match .keys1) direct (omega arith) (omega arith)
     (direct-named (a .regs .now) (a .map .now) (a .mem .now) (a .self .pc) (a .w) _
     (p .plus2 .ensures) (fetch′ .result) (rw (p .before .plus .ensures) at (fetch′ .ensures)))
     (c .before .before .store-at .ensures)
@@ -79,8 +79,8 @@ returns-2 c =
     let pre′ = p .before .before .before .pre in
     let fetch2′ = c .before .before .before .before .before .fetch2 in
     let place′ = c .before .before .before .before .indexed-place in
-    store-tells (a .map .now) (a .regs .now) (pre′ .0) (a .mem .now) (a .self) (a .w) (pre′ .3) 1
-    (c .before .before .before .before .before .before .before .match .keys2) indexed (omega arith) (omega arith)
+    store-tells (a .map .now) (a .regs .now) (pre′ .0) (a .mem .now) (a .self) (a .w) (pre′ .2) (pre′ .3) 1
+    (pre′ .4 ∙ c .before .before .before .before .before .before .before .match .keys2) indexed (omega arith) (omega arith)
     (indexed-named (a .regs .now) (a .map .now) (a .mem .now) (a .self .pc) (a .w) _
     (p .plus2 .ensures) (fetch2′ .result) (rw (p .before .plus .ensures) at (fetch2′ .ensures)) (place′ .result) (place′ .ensures))
     (c .before .before .store-at2 .ensures)
@@ -94,8 +94,8 @@ returns-3 c =
     let a = p .before .before .before .args in
     let pre′ = p .before .before .before .pre in
     let wide′ = c .before .before .before .before .wide in
-    store-tells (a .map .now) (a .regs .now) (pre′ .0) (a .mem .now) (a .self) (a .w) (pre′ .3) 3
-    (c .before .before .before .before .before .before .match .keys3) framed (omega arith) (omega arith)
+    store-tells (a .map .now) (a .regs .now) (pre′ .0) (a .mem .now) (a .self) (a .w) (pre′ .2) (pre′ .3) 3
+    (pre′ .4 ∙ c .before .before .before .before .before .before .match .keys3) framed (omega arith) (omega arith)
     (frame-named (a .regs .now) (a .map .now) (a .mem .now) (a .self .pc) (a .w) _
     (p .before .plus .ensures) (wide′ .result) (wide′ .ensures ∙ c .before .before .before .before .before .frame-place .ensures))
     (c .before .before .store-at3 .ensures)
@@ -108,8 +108,8 @@ returns-4 c =
     let p = c .before .before .before .before .before .before in
     let a = p .before .before .before .args in
     let pre′ = p .before .before .before .pre in
-    store-tells (a .map .now) (a .regs .now) (pre′ .0) (a .mem .now) (a .self) (a .w) (pre′ .3) 6
-    (c .before .before .before .before .before .match .keys4) indirect (omega arith) (omega arith)
+    store-tells (a .map .now) (a .regs .now) (pre′ .0) (a .mem .now) (a .self) (a .w) (pre′ .2) (pre′ .3) 6
+    (pre′ .4 ∙ c .before .before .before .before .before .match .keys4) indirect (omega arith) (omega arith)
     (indirect-named (a .regs .now) (a .map .now) (a .mem .now) (a .self .pc) (a .w) _
     (p .before .plus .ensures) (c .before .before .before .rx .result) (c .before .before .before .rx .ensures))
     (c .before .before .store-at4 .ensures)
@@ -122,8 +122,8 @@ returns-5 c =
     let p = c .before .before .before .before .before .before in
     let a = p .before .before .before .args in
     let pre′ = p .before .before .before .pre in
-    store-tells (a .map .now) (a .regs .now) (pre′ .0) (a .mem .now) (a .self) (a .w) (pre′ .3) 7
-    (c .before .before .before .before .before .match .keys5) byte-indirect (omega arith) (omega arith)
+    store-tells (a .map .now) (a .regs .now) (pre′ .0) (a .mem .now) (a .self) (a .w) (pre′ .2) (pre′ .3) 7
+    (pre′ .4 ∙ c .before .before .before .before .before .match .keys5) byte-indirect (omega arith) (omega arith)
     (byte-named (a .regs .now) (a .map .now) (a .mem .now) (a .self .pc) (a .w) _
     (p .before .plus .ensures) (c .before .before .before .rx2 .result) (c .before .before .before .rx2 .ensures))
     (c .before .before .store-at5 .ensures)

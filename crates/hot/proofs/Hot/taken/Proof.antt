@@ -1,20 +1,23 @@
 -- `hot::Hot::taken` meets its contract.
 -- Assumes nothing.
+use Rattle.hot.specs.Tells.{sOf, zOf}
 use borrow.Author.Needs.{needs}
 use Rattle.hot.proofs.Hot.taken.Statement.{statement}
 use Rattle.hot.proofs.Hot.taken.Tie as tie
 
-s-requires : tie.Need-s-requires
-s-requires c κs = search needs
+holds-requires : tie.Need-holds-requires
+holds-requires c κs = search needs
 
-z-requires : tie.Need-z-requires
-z-requires c κs = search needs
+flags-requires : tie.Need-flags-requires
+flags-requires c κs = search needs
 
-taken-requires : tie.Need-taken-requires
-taken-requires c κs = search needs
+shr-result : tie.Need-shr-result
+shr-result c = search needs
 
 returns : tie.Need-returns
-returns c = rw (c .taken .ensures, c .before .z .ensures, c .before .before .s .ensures)
+returns c =
+    let h = c .before .before .args .self in
+    rw (c .flags .ensures .0) (c .before .holds .ensures .tells (h .v) (h .c) (sOf h) (zOf h))
 
 pub taken-spec : {M : Type 1} → statement M
-taken-spec = tie.close (tie.spec s-requires z-requires taken-requires returns)
+taken-spec = tie.close (tie.spec holds-requires flags-requires shr-result returns)

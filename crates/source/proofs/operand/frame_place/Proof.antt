@@ -9,6 +9,9 @@ use Rattle.source.proofs.operand.frame_place.Tie as tie
 element-copy-out-plus : tie.Need-element-copy-out-plus
 element-copy-out-plus c = search needs
 
+cast-frame-offset : tie.Need-cast-frame-offset
+cast-frame-offset c = search needs
+
 frame-offset-requires : tie.Need-frame-offset-requires
 frame-offset-requires c κs = search needs
 
@@ -25,4 +28,4 @@ returns c =
 
 pub frame-place-spec : {M : Type 1} → statement M
 frame-place-spec =
-    tie.close (tie.spec element-copy-out-plus frame-offset-requires to-word-requires plus-requires returns)
+    tie.close (tie.spec element-copy-out-plus cast-frame-offset frame-offset-requires to-word-requires plus-requires returns)

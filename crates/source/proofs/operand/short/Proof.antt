@@ -8,6 +8,9 @@ use Rattle.word.specs.Signed.{word}
 use Rattle.source.proofs.operand.short.Statement.{statement}
 use Rattle.source.proofs.operand.short.Tie as tie
 
+cast-sign-extend : tie.Need-cast-sign-extend
+cast-sign-extend c = search needs
+
 sign-extend-requires : tie.Need-sign-extend-requires
 sign-extend-requires c κs = search needs
 
@@ -18,4 +21,4 @@ returns : tie.Need-returns
 returns c = c .to-word .ensures ∙ ap word (toZ-ofZ w16 _ (record { sfits = c .before .sign-extend .ok }) ∙ c .before .sign-extend .ensures)
 
 pub short-spec : {M : Type 1} → statement M
-short-spec = tie.close (tie.spec sign-extend-requires to-word-requires returns)
+short-spec = tie.close (tie.spec cast-sign-extend sign-extend-requires to-word-requires returns)

@@ -1,6 +1,6 @@
 -- `source::operand::source_of` meets its contract.
 -- Assumes nothing.
-use mathlib.Core.Path.{refl}
+use mathlib.Core.Path.{refl, _∙_}
 use native.Mathlib.Omega.{arith}
 use borrow.Author.Needs.{needs}
 use Rattle.source.specs.Sources.{byte-source, direct-source, frame-source, immediate-source, indexed-source, indirect-source, last-mode, register-source, short-source}
@@ -88,59 +88,67 @@ operand-requires-8 c κs = search needs
 returns : tie.Need-returns
 returns c =
     let a = c .before .before .before .before .before .before .before .args in
-    rw (c .operand .ensures) (direct-source (a .regs .now) (a .map .now) (a .mem .now) (a .pc) (a .w) _ _
+    let p = c .before .before .before .before .before .before .before .pre in
+    rw (c .operand .ensures) (direct-source (a .regs .now) (a .map .now) (a .mem .now) (a .pc) (a .w) _ (p .1) _
     (c .before .before .before .before .plus2 .ensures) (c .before .before .fetch .result)
-    (rw (c .before .before .before .before .before .plus .ensures) at (c .before .before .fetch .ensures)) (c .before .before .before .match .keys1)
+    (rw (c .before .before .before .before .before .plus .ensures) at (c .before .before .fetch .ensures)) (p .2 ∙ c .before .before .before .match .keys1)
     (c .before .read .ensures))
 
 returns-2 : tie.Need-returns-2
 returns-2 c =
     let a = c .before .before .before .before .before .before .before .before .args in
+    let p = c .before .before .before .before .before .before .before .before .pre in
     let fetch2′ = c .before .before .before .fetch2 in
-    rw (c .operand2 .ensures) (indexed-source (a .regs .now) (a .map .now) (a .mem .now) (a .pc) (a .w) _ _
+    rw (c .operand2 .ensures) (indexed-source (a .regs .now) (a .map .now) (a .mem .now) (a .pc) (a .w) _ (p .1) _
     (c .before .before .before .before .before .plus2 .ensures) (fetch2′ .result)
-    (rw (c .before .before .before .before .before .before .plus .ensures) at (fetch2′ .ensures)) (c .before .before .before .before .match .keys2)
+    (rw (c .before .before .before .before .before .before .plus .ensures) at (fetch2′ .ensures)) (p .2 ∙ c .before .before .before .before .match .keys2)
     (c .before .before .indexed-place .result) (c .before .before .indexed-place .ensures) (c .before .read2 .ensures))
 
 returns-3 : tie.Need-returns-3
 returns-3 c =
     let a = c .before .before .before .before .before .before .args in
-    rw (c .operand3 .ensures) (immediate-source (a .regs .now) (a .map .now) (a .mem .now) (a .pc) (a .w) _ _
+    let p = c .before .before .before .before .before .before .pre in
+    rw (c .operand3 .ensures) (immediate-source (a .regs .now) (a .map .now) (a .mem .now) (a .pc) (a .w) _ (p .1) _
     (c .before .before .before .plus2 .ensures) (c .before .fetch3 .result)
-    (rw (c .before .before .before .before .plus .ensures) at (c .before .fetch3 .ensures)) (c .before .before .match .keys3) refl)
+    (rw (c .before .before .before .before .plus .ensures) at (c .before .fetch3 .ensures)) (p .2 ∙ c .before .before .match .keys3) refl)
 
 returns-4 : tie.Need-returns-4
 returns-4 c =
     let a = c .before .before .before .before .before .before .before .args in
-    rw (c .operand4 .ensures) (frame-source (a .regs .now) (a .map .now) (a .mem .now) (a .pc) (a .w) _ _
-    (c .before .before .before .before .before .plus .ensures) (c .before .before .before .match .keys4) (c .before .before .frame-place .result)
+    let p = c .before .before .before .before .before .before .before .pre in
+    rw (c .operand4 .ensures) (frame-source (a .regs .now) (a .map .now) (a .mem .now) (a .pc) (a .w) _ (p .1) _
+    (c .before .before .before .before .before .plus .ensures) (p .2 ∙ c .before .before .before .match .keys4) (c .before .before .frame-place .result)
     (c .before .before .frame-place .ensures) (c .before .read3 .ensures))
 
 returns-5 : tie.Need-returns-5
 returns-5 c =
     let a = c .before .before .before .before .before .before .args in
-    rw (c .operand5 .ensures) (register-source (a .regs .now) (a .map .now) (a .mem .now) (a .pc) (a .w) _ _
-    (c .before .before .before .before .plus .ensures) (c .before .before .match .keys5) (c .before .rx .ensures))
+    let p = c .before .before .before .before .before .before .pre in
+    rw (c .operand5 .ensures) (register-source (a .regs .now) (a .map .now) (a .mem .now) (a .pc) (a .w) _ (p .1) _
+    (c .before .before .before .before .plus .ensures) (p .2 ∙ c .before .before .match .keys5) (c .before .rx .ensures))
 
 returns-6 : tie.Need-returns-6
 returns-6 c =
     let a = c .before .before .before .before .before .before .args in
-    rw (c .operand6 .ensures) (short-source (a .regs .now) (a .map .now) (a .mem .now) (a .pc) (a .w) _ _
-    (c .before .before .before .before .plus .ensures) (c .before .before .match .keys6) (c .before .short .ensures))
+    let p = c .before .before .before .before .before .before .pre in
+    rw (c .operand6 .ensures) (short-source (a .regs .now) (a .map .now) (a .mem .now) (a .pc) (a .w) _ (p .1) _
+    (c .before .before .before .before .plus .ensures) (p .2 ∙ c .before .before .match .keys6) (c .before .short .ensures))
 
 returns-7 : tie.Need-returns-7
 returns-7 c =
     let a = c .before .before .before .before .before .before .before .args in
-    rw (c .operand7 .ensures) (indirect-source (a .regs .now) (a .map .now) (a .mem .now) (a .pc) (a .w) _ _
-    (c .before .before .before .before .before .plus .ensures) (c .before .before .before .match .keys7) (c .before .before .rx2 .result)
+    let p = c .before .before .before .before .before .before .before .pre in
+    rw (c .operand7 .ensures) (indirect-source (a .regs .now) (a .map .now) (a .mem .now) (a .pc) (a .w) _ (p .1) _
+    (c .before .before .before .before .before .plus .ensures) (p .2 ∙ c .before .before .before .match .keys7) (c .before .before .rx2 .result)
     (c .before .before .rx2 .ensures) (c .before .read4 .ensures))
 
 returns-8 : tie.Need-returns-8
 returns-8 c =
     let a = c .before .before .before .before .before .before .before .args in
+    let p = c .before .before .before .before .before .before .before .pre in
     let match′ = c .before .before .before .match in
-    rw (c .operand8 .ensures) (byte-source (a .regs .now) (a .map .now) (a .mem .now) (a .pc) (a .w) _ _
-    (c .before .before .before .before .before .plus .ensures) (last-mode _ (omega arith) (match′ .rest .0 .0 .0 .0 .0 .0 .1)
+    rw (c .operand8 .ensures) (byte-source (a .regs .now) (a .map .now) (a .mem .now) (a .pc) (a .w) _ (p .1) _
+    (c .before .before .before .before .before .plus .ensures) (p .2 ∙ last-mode _ (omega arith) (match′ .rest .0 .0 .0 .0 .0 .0 .1)
     (match′ .rest .0 .0 .0 .0 .0 .1) (match′ .rest .0 .0 .0 .0 .1) (match′ .rest .0 .0 .0 .1) (match′ .rest .0 .0 .1) (match′ .rest .0 .1)
     (match′ .rest .1)) (c .before .before .rx3 .result) (c .before .before .rx3 .ensures) (c .before .read5 .ensures))
 

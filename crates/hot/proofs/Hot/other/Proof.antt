@@ -1,0 +1,16 @@
+-- `hot::Hot::other` meets its contract.
+-- Assumes nothing.
+use mathlib.Core.Path.{refl}
+use Rattle.hot.specs.Tells.{stop}
+use borrow.Author.Needs.{needs}
+use Rattle.hot.proofs.Hot.other.Statement.{statement}
+use Rattle.hot.proofs.Hot.other.Tie as tie
+
+stop-requires : tie.Need-stop-requires
+stop-requires c κs = search needs
+
+returns : tie.Need-returns
+returns c = stop (c .stop .ensures) refl refl
+
+pub other-spec : {M : Type 1} → statement M
+other-spec = tie.close (tie.spec stop-requires returns)
