@@ -29,7 +29,8 @@ use Rattle.refinement.specs.Hot.{reg-hot, rx-hot}
 use Rattle.refinement.specs.Operands as operands
 use Rattle.refinement.specs.Operands.{Addressed, Second, Sourced, memory-read}
 use Rattle.refinement.specs.Operations.{Does}
-use Rattle.refinement.specs.Operations.{call-does, compare-does, divide-does, flag-does, jump-does, load-does, next-does, no-does, pass-does, pop-does, push-does, ret-does, shift-does, store-does}
+use Rattle.refinement.specs.Operations.{call-does, compare-does, divide-does, flag-does, jump-does, load-does, next-does}
+use Rattle.refinement.specs.Operations.{no-does, pass-does, pop-does, push-does, ret-does, shift-does, store-does}
 use Rattle.refinement.specs.Opens.{opens-call, opens-jump, opens-store}
 use Rattle.refinement.specs.Results.{ByValue, difference-by-value, result-by-value}
 

@@ -41,7 +41,9 @@ high-requires c κs = let l = c .before .before .before .before .before .before 
 -- what the turn has told, by either chain
 record Turn (c : tie.Joined2 Inv-loop μ-loop) : Type 0 where
   tells :
-      Told (c .before .before .before .before .before .before .before .args .top) (c .before .before .before .before .before .before .before .args .map .now) (c .before .before .before .before .before .loop .regs)
+      Told (c .before .before .before .before .before .before .before .args .top)
+      (c .before .before .before .before .before .before .before .args .map .now)
+      (c .before .before .before .before .before .loop .regs)
       (c .before .before .before .before .before .loop .mem) (c .before .before .before .before .before .loop .hot) (c .before .before .fetch .result)
       (c .if2 .regs) (c .if2 .mem) (c .if2 .hot)
   long : length (c .if2 .mem) ≡ 65536
