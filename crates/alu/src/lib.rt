@@ -1,7 +1,6 @@
 // Results and flags of the instructions from ADD to SHRL. `a` is the register, `b` the source.
 ghost use mathlib.Core.Bool.{not};
 ghost use mathlib.Core.Path.{_≡_};
-ghost use Prim.Native.Nat.{_+_, _%_};
 ghost use lib.IntN.{_+ℤ_, _-ℤ_};
 ghost use Rattle.alu.specs.Alu as def;
 ghost use Rattle.word.specs.Signed.{inWord, signed};
@@ -31,31 +30,18 @@ fn with_flags(value: u16, v: bool, c: bool) -> Alu
     }
 }
 
-// `x` as a signed number, plus 32,768.
-fn biased(x: u16) -> u32
-    ensures { λ r. ⌜ r ≡ (x + 32768) % 65536 ⌝ }
-{
-    plus(x, 32768) as u32
-}
-
 fn sum_overflows(a: u16, b: u16) -> bool
     ensures { λ r. ⌜ r ≡ not (inWord (signed a +ℤ signed b)) ⌝ }
 {
-    let sum = biased(a) + biased(b);
-    if sum < 32768 {
-        return true;
-    }
-    98304 <= sum
+    let sum = to_signed(a) as i32 + to_signed(b) as i32;
+    (sum < -32768) | (32767 < sum)
 }
 
 fn difference_overflows(a: u16, b: u16) -> bool
     ensures { λ r. ⌜ r ≡ not (inWord (signed a -ℤ signed b)) ⌝ }
 {
-    let difference = 65536 + biased(a) - biased(b);
-    if difference < 32768 {
-        return true;
-    }
-    98304 <= difference
+    let difference = to_signed(a) as i32 - to_signed(b) as i32;
+    (difference < -32768) | (32767 < difference)
 }
 
 pub fn add(a: u16, b: u16) -> Alu

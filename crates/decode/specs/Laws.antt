@@ -1,19 +1,17 @@
--- Laws of the decoding: what a test says of every row in each of its modes holds of each first byte and of each defined first word. Two such
--- tests: the numbers are small; and an instruction for anyone is none that a privilege guards.
+-- Laws of the decoding: what a test says of every row in each of its modes holds of each first byte and of each defined first word. One such
+-- test: an instruction for anyone is none that a privilege guards.
 -- Assumes nothing.
 use mathlib.Core.Bool.{Bool, not, true, _&&_, _||_}
 use mathlib.Core.List.{List, [], _∷_}
 use mathlib.Core.Path.{refl, subst, sym, _≡_}
-use Prim.Native.Nat.{ℕ, _+_, _<_}
-use native.Mathlib.Omega.{arith}
-use borrow.Author.Tests.{ltb-true}
-use lib.Dec.{eqb, ltb}
+use Prim.Native.Nat.{ℕ, _+_}
+use lib.Dec.{eqb}
 use Rattle.word.specs.Cases.{either, rest, this}
 use Rattle.word.specs.Word.{upper}
 use Rattle.decode.specs.Code.{HALT, IN, OUT, RETI}
 use Rattle.decode.specs.Decode.{firstIn, firstOf, rdBad, rdField, shapeOf}
-use Rattle.decode.specs.Instructions.{Row, addStates, divStates, eight, row, rows, shiftStates, single}
-use Rattle.decode.specs.Opcode.{Opcode, costOf, inModes, inRows, known, modeBits, opcodeOf, statesAt, unknown}
+use Rattle.decode.specs.Instructions.{Row, eight, row, rows, single}
+use Rattle.decode.specs.Opcode.{Opcode, inModes, inRows, known, modeBits, opcodeOf, unknown}
 use Rattle.decode.specs.declared.First.{First}
 use Rattle.decode.specs.declared.First.the-variants.{Defined, Undefined}
 use Rattle.decode.specs.declared.Privilege.{Privilege}
@@ -74,47 +72,6 @@ module _ (test : Row → ℕ → Bool) where
     pub decoded-has : (w : ℕ) (shape : Shape) → Defined shape ≡ firstOf w → Decoded w shape
     unfolding firstOf
     decoded-has w shape e = subst (FirstHas w) (sym e) (first-has (opcodeOf (upper w)) w (opcode-has (upper w)))
-
--- ---- the numbers are small
-
-abbrev pub small : Row → ℕ → Bool
-small r m = ltb (r .code) 32 && (ltb m 9 && (ltb (costOf r m) 128 && ltb 0 (costOf r m)))
-
-pub all-small : inEachRow small rows ≡ true
-unfolding rows row eight single addStates divStates shiftStates inEachMode inEachRow costOf statesAt
-all-small = refl
-
--- the numbers of a row in a mode
-pub record Small (r : Row) (m : ℕ) : Type 0 where
-  pub code : r .code < 32
-  pub mode : m < 9
-  pub cost : costOf r m < 128
-  pub some : 0 < costOf r m
-
-pub small-row : (r : Row) (m : ℕ) → small r m ≡ true → Small r m
-small-row r m t =
-    let three = rest (ltb (r .code) 32) (ltb m 9 && (ltb (costOf r m) 128 && ltb 0 (costOf r m))) t in
-    let two = rest (ltb m 9) (ltb (costOf r m) 128 && ltb 0 (costOf r m)) three in
-    record {
-      code = ltb-true _ _ (this (ltb (r .code) 32) (ltb m 9 && (ltb (costOf r m) 128 && ltb 0 (costOf r m))) t);
-      mode = ltb-true _ _ (this (ltb m 9) (ltb (costOf r m) 128 && ltb 0 (costOf r m)) three);
-      cost = ltb-true _ _ (this (ltb (costOf r m) 128) (ltb 0 (costOf r m)) two);
-      some = ltb-true _ _ (rest (ltb (costOf r m) 128) (ltb 0 (costOf r m)) two);
-    }
-
--- the numbers of a defined first word
-pub record Bounded (shape : Shape) : Type 0 where
-  pub code : shape .code < 32
-  pub mode : shape .mode < 9
-  pub rd : shape .rd < 16
-  pub rx : shape .rx < 16
-  pub cost : shape .cost < 128
-
-pub shape-bounded : (w : ℕ) (shape : Shape) → Defined shape ≡ firstOf w → Bounded shape
-shape-bounded w shape e =
-    let d : Decoded small w shape = decoded-has small all-small w shape e in
-    let s : Small (d .row) (d .mode) = small-row (d .row) (d .mode) (d .has) in
-    rw (d .is) (record { code = s .code; mode = s .mode; rd = omega arith; rx = omega arith; cost = s .cost })
 
 -- ---- privilege
 

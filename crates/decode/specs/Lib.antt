@@ -4,5 +4,5 @@ pub mod Entry
 pub mod Instructions
 pub mod Laws
 pub mod Mode
-pub mod Numbers
 pub mod Opcode
+pub mod Properties

@@ -2,13 +2,14 @@
 pub mod code;
 mod opcode;
 mod operands;
+mod properties;
 pub mod register;
 mod table;
 
-pub use opcode::NO_CONDITION;
 pub use opcode::first_word;
 pub use operands::decoded;
 pub use operands::frame_offset;
+pub use properties::NO_CONDITION;
 pub use table::Table;
 pub use table::entries;
 

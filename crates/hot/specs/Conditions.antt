@@ -2,13 +2,12 @@
 -- Assumes nothing.
 use mathlib.Core.Bool.{Bool, false, true}
 use mathlib.Core.List.{List, [], _∷_}
-use mathlib.Core.Path.{ap, refl, _≡_}
+use mathlib.Core.Path.{ap, _≡_}
 use Prim.Native.Nat.{ℕ, _%_, _*_, _+_, _/_, _^_, _≤_}
 use native.Mathlib.Omega.{arith}
 use lib.Dec.{eqb}
 use lib.ListN.{getD}
 use mir.Val.{boolByte}
-use Rattle.jump.specs.Jump.{conditionOf}
 use Rattle.status.specs.Flag.{takenOn}
 use Rattle.status.specs.declared.Flags.{Flags}
 

@@ -1,9 +1,10 @@
 // The instructions: PC, the arithmetic flags, the registers and memory after one, or nothing changed where it is not carried out here.
 ghost use mathlib.Core.Path.{_≡_};
-ghost use Prim.Native.Nat.{_<_, _/_};
+ghost use Prim.Native.Nat.{_%_, _*_, _+_, _/_, _<_};
 ghost use lib.ListN.{length, set};
 ghost use Rattle.source.specs.Rows.{addCost, loadCost};
 ghost use Rattle.source.specs.Fields.{modeOf};
+ghost use Rattle.word.specs.Word.{upper};
 ghost use Rattle.hot.specs.Tells as def;
 use crate::Hot;
 use alu::Alu;
@@ -11,26 +12,40 @@ use decode::code;
 use pages::NONE;
 use source::Source;
 use source::USP;
+use source::source_of;
 
 impl Hot {
-    // To another address, in these states.
-    pub(crate) fn to(self, pc: u16, cost: u32) -> Hot
+    // To another address, in these states. It changes the value that it was given, so that V and C go along as they are: the compiled loop is shorter so.
+    pub(crate) fn to(mut self, pc: u16, cost: u32) -> Hot
         ensures { λ r. ⌜ r ≡ def.to self pc cost ⌝ }
     {
-        Hot {
-            pc,
-            v: self.v,
-            c: self.c,
-            result: self.result,
-            cost,
-        }
+        self.pc = pc;
+        self.cost = cost;
+        self
     }
 
     // Not carried out.
-    pub(crate) fn stop(self) -> Hot
+    pub fn stop(self) -> Hot
         ensures { λ r. ⌜ r ≡ def.stopOf self ⌝ }
     {
         self.to(self.pc, 0)
+    }
+
+    // LD and ADD to SHRL, PC being even.
+    pub fn op(
+        self,
+        regs: &mut [u16; 16],
+        map: &[u16; 256],
+        mem: &[u8],
+        w: u32,
+        code: u8,
+        mode: u32,
+    ) -> Hot
+        requires { ⌜ (length (now regs) ≡ 16) × (length (now mem) ≡ 65536) × (self .pc % 2 ≡ 0) × (upper w ≡ code * 8 + mode) × (mode < 8) ⌝ }
+        ensures { λ r. ⌜ def.Tells (now (map .entry)) (now (regs .entry)) (now (mem .entry)) self w (now (regs .exit)) (now (mem .entry)) r ⌝ }
+    {
+        let x = source_of(regs, map, mem, self.pc, w, mode);
+        self.operate(regs, w, code, mode, x)
     }
 
     // LD and ADD to SHRL, by code and mode, with their operand.

@@ -1,10 +1,8 @@
 // One plain instruction on PC, the arithmetic flags and the registers alone. One that is not plain is not carried out here.
 mod arm;
-mod first;
 mod flags;
 mod turn;
 
-pub use first::HIGH;
 pub use flags::upper_flags;
 
 // PC and the arithmetic flags, S and Z being those of a result. `cost` is the states of the last instruction, 0 where it was not carried

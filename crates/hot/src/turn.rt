@@ -62,14 +62,7 @@ impl Hot {
     }
 
     // A jump, PC being even.
-    pub(crate) fn jump(
-        self,
-        regs: &[u16; 16],
-        map: &[u16; 256],
-        mem: &[u8],
-        w: u32,
-        mode: u32,
-    ) -> Hot
+    pub fn jump(self, regs: &[u16; 16], map: &[u16; 256], mem: &[u8], w: u32, mode: u32) -> Hot
         requires { ⌜ (length (now regs) ≡ 16) × (length (now mem) ≡ 65536) × (self .pc % 2 ≡ 0) × (upper w ≡ JUMP * 8 + mode) × (mode < 2) ⌝ }
         ensures { λ r. ⌜ Tells (now (map .entry)) (now (regs .entry)) (now (mem .entry)) self w (now (regs .entry)) (now (mem .entry)) r ⌝ }
     {
@@ -92,7 +85,7 @@ impl Hot {
     }
 
     // CALL, PC being even.
-    pub(crate) fn call(
+    pub fn call(
         self,
         regs: &mut [u16; 16],
         map: &[u16; 256],
@@ -123,7 +116,7 @@ impl Hot {
         self.stop()
     }
 
-    pub(crate) fn push(self, regs: &mut [u16; 16], map: &[u16; 256], mem: &mut [u8], w: u32) -> Hot
+    pub fn push(self, regs: &mut [u16; 16], map: &[u16; 256], mem: &mut [u8], w: u32) -> Hot
         requires { ⌜ (length (now regs) ≡ 16) × (length (now mem) ≡ 65536) × (self .pc % 2 ≡ 0) × (upper w ≡ PUSH * 8) ⌝ }
         ensures { λ r. ⌜ Tells (now (map .entry)) (now (regs .entry)) (now (mem .entry)) self w (now (regs .exit)) (now (mem .exit)) r ⌝ }
     {
@@ -139,7 +132,7 @@ impl Hot {
         self.stop()
     }
 
-    pub(crate) fn pop(self, regs: &mut [u16; 16], map: &[u16; 256], mem: &[u8], w: u32) -> Hot
+    pub fn pop(self, regs: &mut [u16; 16], map: &[u16; 256], mem: &[u8], w: u32) -> Hot
         requires { ⌜ (length (now regs) ≡ 16) × (length (now mem) ≡ 65536) × (self .pc % 2 ≡ 0) × (upper w ≡ PUSH * 8 + 4) ⌝ }
         ensures { λ r. ⌜ Tells (now (map .entry)) (now (regs .entry)) (now (mem .entry)) self w (now (regs .exit)) (now (mem .entry)) r ⌝ }
     {
@@ -156,7 +149,7 @@ impl Hot {
         self.to(plus(self.pc, 2), 6)
     }
 
-    pub(crate) fn ret(self, regs: &mut [u16; 16], map: &[u16; 256], mem: &[u8], w: u32) -> Hot
+    pub fn ret(self, regs: &mut [u16; 16], map: &[u16; 256], mem: &[u8], w: u32) -> Hot
         requires { ⌜ (length (now regs) ≡ 16) × (length (now mem) ≡ 65536) × (self .pc % 2 ≡ 0) × (upper w ≡ RET * 8) ⌝ }
         ensures { λ r. ⌜ Tells (now (map .entry)) (now (regs .entry)) (now (mem .entry)) self w (now (regs .exit)) (now (mem .entry)) r ⌝ }
     {
@@ -197,14 +190,7 @@ impl Hot {
     }
 
     // ST, PC being even.
-    pub(crate) fn store(
-        self,
-        regs: &[u16; 16],
-        map: &[u16; 256],
-        mem: &mut [u8],
-        w: u32,
-        mode: u32,
-    ) -> Hot
+    pub fn store(self, regs: &[u16; 16], map: &[u16; 256], mem: &mut [u8], w: u32, mode: u32) -> Hot
         requires { ⌜ (length (now regs) ≡ 16) × (length (now mem) ≡ 65536) × (self .pc % 2 ≡ 0) × (w / 2048 ≡ ST) × (modeOf w ≡ mode) ⌝ }
         ensures { λ r. ⌜ Tells (now (map .entry)) (now (regs .entry)) (now (mem .entry)) self w (now (regs .entry)) (now (mem .exit)) r ⌝ }
     {
@@ -230,7 +216,7 @@ impl Hot {
     }
 
     // NO.
-    pub(crate) fn no(self, regs: &[u16; 16], map: &[u16; 256], mem: &[u8], w: u32) -> Hot
+    pub fn no(self, regs: &[u16; 16], map: &[u16; 256], mem: &[u8], w: u32) -> Hot
         requires { ⌜ (length (now regs) ≡ 16) × (length (now mem) ≡ 65536) × (self .pc % 2 ≡ 0) × (upper w ≡ NO * 8) ⌝ }
         ensures { λ r. ⌜ Tells (now (map .entry)) (now (regs .entry)) (now (mem .entry)) self w (now (regs .entry)) (now (mem .entry)) r ⌝ }
     {
@@ -238,7 +224,7 @@ impl Hot {
     }
 
     // LD Rd,FLAG, `top` being E, P and I in their places in FLAG.
-    pub(crate) fn load_flag(
+    pub fn load_flag(
         self,
         regs: &mut [u16; 16],
         map: &[u16; 256],

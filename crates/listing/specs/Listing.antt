@@ -9,7 +9,6 @@ use lib.ListN.{drop, getD, length, take}
 use Rattle.report.specs.Layout.{endingAt, flagAt, numberAt, pcAt, reportSize, statesAt, stepsAt}
 use Rattle.endian.specs.Bytes.{wordFrom}
 use Rattle.refusal.specs.Refusal.{causeNumber}
-use Rattle.refusal.specs.declared.Refusal.{Refusal}
 use Rattle.refusal.specs.declared.Validity.{Validity}
 use Rattle.refusal.specs.declared.Validity.the-variants.{Good, Refused}
 use Rattle.text.specs.Text.{ascii, decimalOf, hexOf}

@@ -2,6 +2,7 @@
 -- first step and after each it ends if one of these holds, the earlier named winning: halted or lost (also found so, with 0 steps),
 -- kernel entered by the step just done, allowance spent."
 -- Assumes nothing.
+use mathlib.Core.Bool.{Bool, false, true}
 use mathlib.Core.List.{List}
 use Prim.Native.Nat.{suc, zero, ℕ, _+_}
 use Rattle.machine.specs.Answers.{statesOf}
@@ -82,6 +83,15 @@ throughFrom (suc left) st m n t =
 
 unfoldable pub throughOf : ℕ → State → List ℕ → Ran
 throughOf allowance st m = throughFrom allowance st m 0 0
+
+-- one that goes on through kernel entries, or one that ends there
+abbrev pub goFrom : Bool → ℕ → State → List ℕ → ℕ → ℕ → Ran
+goFrom true = throughFrom
+goFrom false = runFrom
+
+abbrev pub goOf : Bool → ℕ → State → List ℕ → Ran
+goOf true = throughOf
+goOf false = runOf
 
 -- the end of a run, without the memory
 abbrev pub finished : Ran → Finished

@@ -11,8 +11,7 @@ use lib.ListN.{getD}
 use Rattle.word.specs.Cases.{rest, this}
 use Rattle.mmu.specs.Entry.{pageIn, valid}
 use Rattle.mmu.specs.Lookup.{hasPage, lookupFrom, lookupOf}
-use Rattle.mmu.specs.declared.Lookup.{Lookup}
-use Rattle.mmu.specs.declared.Lookup.the-variants.{Entry, Missing}
+use Rattle.mmu.specs.declared.Lookup.the-variants.{Entry}
 
 pub record Found (tlb : List ℕ) (page k : ℕ) : Type 0 where
   pub below : k < 8

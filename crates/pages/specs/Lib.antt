@@ -1,2 +1,3 @@
 pub mod Accesses
+pub mod Kept
 pub mod Maps

@@ -41,7 +41,7 @@ fn page_of(entry: u32) -> usize
 }
 
 // The map of a TLB: an entry goes in after those of higher numbers.
-fn by_tlb(tlb: [u32; 8]) -> [u16; 256]
+pub fn by_tlb(tlb: [u32; 8]) -> [u16; 256]
     ensures { λ r. ⌜ ShowsFrom tlb 0 r ⌝ }
 {
     let mut map: [u16; 256] = [0; 256];
@@ -60,7 +60,7 @@ fn by_tlb(tlb: [u32; 8]) -> [u16; 256]
 }
 
 // The map where nothing is translated.
-fn identity() -> [u16; 256]
+pub fn identity() -> [u16; 256]
     ensures { λ r. ⌜ SelfTo 256 r ⌝ }
 {
     let mut map: [u16; 256] = [0; 256];

@@ -54,7 +54,7 @@ did st m n = record { state = st; memory = m; event = Executed n }
 
 -- ---- the theorem
 
--- `carried`: an instruction that is carried out as `Hot::low` and `Hot::high` promise (`Told`, `top` being E, P and I in their places in FLAG), its first
+-- `carried`: an instruction that is carried out as `low` and `high` of dispatch promise (`Told`, `top` being E, P and I in their places in FLAG), its first
 -- word w being the one that the map gives at PC, is the machine's step on every state with this map in which no interrupt is due: the same registers, PC,
 -- flags, memory and states, and nothing else changes
 abbrev pub InstructionIsStep : Type 0

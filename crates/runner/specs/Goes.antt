@@ -1,13 +1,13 @@
 -- Instructions one after the other, none of which enters the kernel or stops the machine; and runs by such parts.
 -- Assumes nothing.
-use mathlib.Core.Bool.{false, _&&_}
+use mathlib.Core.Bool.{Bool, false, true, _&&_}
 use mathlib.Core.List.{List}
 use mathlib.Core.Path.{ap, _∙_, _≡_}
 use Prim.Native.Nat.{suc, ℕ, _%_, _+_}
 use native.Mathlib.Nat.{add-zero}
 use native.Mathlib.Omega.{arith}
 use Rattle.machine.specs.Plan.{interrupted}
-use Rattle.machine.specs.Run.{runFrom}
+use Rattle.machine.specs.Run.{goFrom, runFrom, throughFrom}
 use Rattle.machine.specs.Step.{stepOf}
 use Rattle.machine.specs.declared.Condition.the-variants.{Running}
 use Rattle.machine.specs.declared.State.{State}
@@ -27,20 +27,25 @@ pub data Goes (st : State) (m : List ℕ) : ℕ → ℕ → State → List ℕ �
       {steps states n : ℕ} {st′ st″ : State} {m′ m″ : List ℕ} → Goes st m steps states st′ m′ → st′ .condition ≡ Running
       → stepOf st′ m′ ≡ did st″ m″ n → Goes st m (steps + 1) (states + n) st″ m″
 
-on : (left : ℕ) (st st′ : State) (m m′ : List ℕ) (k t n : ℕ) → st .condition ≡ Running → stepOf st m ≡ did st′ m′ n
-    → runFrom (suc left) st m k t ≡ runFrom left st′ m′ (k + 1) (t + n)
-unfolding runFrom
-on left st st′ m m′ k t n c e = rw (e, c)
+on :
+    (through : Bool) (left : ℕ) (st st′ : State) (m m′ : List ℕ) (k t n : ℕ) → st .condition ≡ Running → stepOf st m ≡ did st′ m′ n
+    → goFrom through (suc left) st m k t ≡ goFrom through left st′ m′ (k + 1) (t + n)
+unfolding runFrom throughFrom
+on true left st st′ m m′ k t n c e = rw (e, c)
+on false left st st′ m m′ k t n c e = rw (e, c)
 
 pub goes-run :
-    {st st′ : State} {m m′ : List ℕ} {steps states : ℕ} → Goes st m steps states st′ m′ → (left k t : ℕ)
-    → runFrom (left + steps) st m k t ≡ runFrom left st′ m′ (k + steps) (t + states)
-goes-run none left k t = rw (add-zero left, add-zero k, add-zero t)
-goes-run {st} {m} (more {steps} {states} {n} {st′} {st″} {m′} {m″} g c e) left k t =
+    (through : Bool) {st st′ : State} {m m′ : List ℕ} {steps states : ℕ} → Goes st m steps states st′ m′ → (left k t : ℕ)
+    → goFrom through (left + steps) st m k t ≡ goFrom through left st′ m′ (k + steps) (t + states)
+goes-run through none left k t = rw (add-zero left, add-zero k, add-zero t)
+goes-run through {st} {m} (more {steps} {states} {n} {st′} {st″} {m′} {m″} g c e) left k t =
     let a : left + (steps + 1) ≡ suc left + steps = omega arith in
     let x : k + steps + 1 ≡ k + (steps + 1) = omega arith in
     let y : t + states + n ≡ t + (states + n) = omega arith in
-    ap (λ (q : ℕ). runFrom q st m k t) a ∙ goes-run g (suc left) k t ∙ on left st′ st″ m′ m″ (k + steps) (t + states) n c e ∙ rw (x, y)
+    ap (λ (q : ℕ). goFrom through q st m k t) a
+    ∙ goes-run through g (suc left) k t
+    ∙ on through left st′ st″ m′ m″ (k + steps) (t + states) n c e
+    ∙ rw (x, y)
 
 -- ---- the loop
 

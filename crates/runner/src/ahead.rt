@@ -4,15 +4,18 @@ ghost use mathlib.Core.Path.{_≡_};
 ghost use Prim.Native.Nat.{_*_, _≤_};
 ghost use lib.ListN.{length};
 ghost use Rattle.alu.specs.Alu.{signOf, zeroOf};
+ghost use Rattle.pages.specs.Kept.{Kept};
 ghost use Rattle.runner.specs.Goes.{Goes, Ready};
-ghost use Rattle.refinement.specs.Statement.{hot, hotState};
+ghost use Rattle.refinement.specs.Statement.{MapOf, hot, hotState};
 use crate::Part;
 use crate::quick::quick;
 use hot::Hot;
 use hot::upper_flags;
 use machine::Condition;
 use machine::State;
+use pages::MAPS;
 use pages::page_map;
+use pages::renew;
 use status::Flags;
 
 // The registers by their numbers, SP among them.
@@ -86,9 +89,9 @@ fn result_of(s: bool, z: bool) -> u16
     if z { 0 } else { 1 }
 }
 
-// Plain instructions of a machine that is ready for them.
-fn stretch(state: State, mem: &mut [u8], allowance: u16) -> Part
-    requires { ⌜ (length (now mem) ≡ 65536) × Ready state ⌝ }
+// Plain instructions of a machine that is ready for them, by a map of its pages.
+fn stretch(state: State, mem: &mut [u8], allowance: u16, map: &[u16; 256]) -> Part
+    requires { ⌜ (length (now mem) ≡ 65536) × Ready state × MapOf state (now map) ⌝ }
     ensures goes { λ r. ⌜ Goes state (now (mem .entry)) (r .steps) (r .states) (r .state) (now (mem .exit)) ⌝ }
     ensures bounds { λ r. ⌜ (r .steps ≤ allowance) × (r .states ≤ 65535 * r .steps) ⌝ }
 {
@@ -101,9 +104,7 @@ fn stretch(state: State, mem: &mut [u8], allowance: u16) -> Part
         result: result_of(f.s, f.z),
         cost: 0,
     };
-    let tlb = state.tlb;
-    let map = page_map(state.translates(), tlb);
-    let q = quick(first, &mut regs, &map, mem, upper_flags(f), allowance);
+    let q = quick(first, &mut regs, map, mem, upper_flags(f), allowance);
     let last = q.hot;
     Part {
         state: gather(state, regs, last),
@@ -128,14 +129,28 @@ fn ready(state: State) -> bool
 }
 
 // Plain instructions, where there may be any.
-pub fn ahead(state: State, mem: &mut [u8], allowance: u16) -> Part
-    requires { ⌜ length (now mem) ≡ 65536 ⌝ }
+pub fn ahead(
+    state: State,
+    mem: &mut [u8],
+    allowance: u16,
+    maps: &mut [[u16; 256]],
+    origin: &mut [u32; 8],
+) -> Part
+    requires { ⌜ (length (now mem) ≡ 65536) × Kept (now origin) (now maps) ⌝ }
     ensures goes { λ r. ⌜ Goes state (now (mem .entry)) (r .steps) (r .states) (r .state) (now (mem .exit)) ⌝ }
     ensures bounds { λ r. ⌜ (r .steps ≤ allowance) × (r .states ≤ 65535 * r .steps) ⌝ }
+    ensures kept { λ r. ⌜ Kept (now (origin .exit)) (now (maps .exit)) ⌝ }
 {
     if allowance != 0 {
         if ready(state) {
-            return stretch(state, mem, allowance);
+            let on = state.translates();
+            let tlb = state.tlb;
+            if maps.len() == MAPS {
+                renew(maps, origin, on, tlb);
+                return stretch(state, mem, allowance, &maps[on as usize]);
+            }
+            let map = page_map(on, tlb);
+            return stretch(state, mem, allowance, &map);
         }
     }
     Part {

@@ -4,7 +4,9 @@ ghost use Prim.Native.Nat.{_%_, _*_, _<_, _≤_};
 ghost use lib.ListN.{length};
 ghost use Rattle.runner.specs.Goes.{Leads};
 use crate::Stretch;
-use hot::HIGH;
+use dispatch::HIGH;
+use dispatch::high;
+use dispatch::low;
 use hot::Hot;
 use pages::NONE;
 use pages::fetch;
@@ -34,9 +36,9 @@ pub fn quick(
         let byte = (w / 256) as u8;
         // Each chain in the loop itself: the compiler puts both in, and not a function over both.
         hot = if byte < HIGH {
-            hot.low(regs, map, mem, top, w, byte)
+            low(hot, regs, map, mem, top, w, byte)
         } else {
-            hot.high(regs, map, mem, w, byte)
+            high(hot, regs, map, mem, w, byte)
         };
         if hot.cost == 0 {
             break;

@@ -1,9 +1,9 @@
-// Runs: a step of the machine, then plain instructions, in turn.
+// Runs: plain instructions, then a step of the machine, in turn.
 ghost use mathlib.Core.Path.{_≡_};
-ghost use Prim.Native.Nat.{_*_, _≤_};
 ghost use lib.ListN.{length};
 ghost use Rattle.decode.specs.Entry.{tableOf};
 ghost use Rattle.machine.specs.Run as def;
+ghost use Rattle.pages.specs.Kept.{Kept};
 use crate::ahead::ahead;
 use decode::Table;
 use machine::Condition;
@@ -12,20 +12,31 @@ use machine::Event;
 use machine::Finished;
 use machine::State;
 use machine::states_of;
+use pages::kept_maps;
 
-// A run of at most `allowance` steps, and the bounds of its counts.
-fn counted(start: State, mem: &mut [u8], allowance: u16, table: &Table) -> Finished
-    requires { ⌜ (length (now mem) ≡ 65536) × (now table ≡ tableOf) ⌝ }
-    ensures runs { λ r. ⌜ (r ≡ def.finished (def.runOf allowance start (now (mem .entry)))) × (now (mem .exit) ≡ (def.runOf allowance start (now (mem .entry))) .memory) ⌝ }
-    ensures counts { λ r. ⌜ (r .steps ≤ allowance) × (r .states ≤ 65535 * r .steps) ⌝ }
+// A run of at most `allowance` steps, which goes on through kernel entries or ends there. `maps` are maps of the pages that are kept, `origin`
+// the TLB that they are of; where there are none, a map is made wherever plain instructions begin.
+fn by_turns(
+    start: State,
+    mem: &mut [u8],
+    allowance: u16,
+    through: bool,
+    table: &Table,
+    maps: &mut [[u16; 256]],
+    origin: &mut [u32; 8],
+) -> Finished
+    requires { ⌜ (length (now mem) ≡ 65536) × (now table ≡ tableOf) × Kept (now origin) (now maps) ⌝ }
+    ensures answer { λ r. ⌜ r ≡ def.finished (def.goOf through allowance start (now (mem .entry))) ⌝ }
+    ensures memory { λ r. ⌜ now (mem .exit) ≡ (def.goOf through allowance start (now (mem .entry))) .memory ⌝ }
+    ensures kept { λ r. ⌜ Kept (now (origin .exit)) (now (maps .exit)) ⌝ }
 {
     let mut state = start;
     let mut steps: u16 = 0;
     let mut states: u32 = 0;
-    // What plain instructions may take: nothing before the first step.
-    let mut spare: u16 = 0;
+    // What plain instructions may take: nothing before the first step of a run that ends at an entry, since many a one has no other step.
+    let mut spare = if through { allowance } else { 0 };
     loop {
-        let part = ahead(state, mem, spare);
+        let part = ahead(state, mem, spare, maps, origin);
         steps += part.steps;
         states += part.states;
         let at = part.state;
@@ -44,8 +55,10 @@ fn counted(start: State, mem: &mut [u8], allowance: u16, table: &Table) -> Finis
         states += states_of(event) as u32;
         state = stepped.state;
         spare = allowance - steps;
-        if let Event::Entered(number, pc, flag) = event {
-            return state.finish(steps, states, Ending::Entered(number, pc, flag));
+        if !through {
+            if let Event::Entered(number, pc, flag) = event {
+                return state.finish(steps, states, Ending::Entered(number, pc, flag));
+            }
         }
     }
 }
@@ -56,26 +69,36 @@ pub fn run(start: State, mem: &mut [u8], allowance: u16, table: &Table) -> Finis
     ensures answer { λ r. ⌜ r ≡ def.finished (def.runOf allowance start (now (mem .entry))) ⌝ }
     ensures memory { λ r. ⌜ now (mem .exit) ≡ (def.runOf allowance start (now (mem .entry))) .memory ⌝ }
 {
-    counted(start, mem, allowance, table)
+    // No maps: places for them would cost a short run more than they save it.
+    let mut none: [[u16; 256]; 0] = [];
+    let mut origin = start.tlb;
+    by_turns(start, mem, allowance, false, table, &mut none, &mut origin)
 }
 
-// A run that goes on through kernel entries, to a halt or a loss: runs to the next entry, one after the other.
+// A run that goes on through kernel entries, to a halt or a loss.
 pub fn run_through(start: State, mem: &mut [u8], allowance: u16, table: &Table) -> Finished
     requires { ⌜ (length (now mem) ≡ 65536) × (now table ≡ tableOf) ⌝ }
     ensures answer { λ r. ⌜ r ≡ def.finished (def.throughOf allowance start (now (mem .entry))) ⌝ }
     ensures memory { λ r. ⌜ now (mem .exit) ≡ (def.throughOf allowance start (now (mem .entry))) .memory ⌝ }
 {
-    let mut state = start;
-    let mut steps: u16 = 0;
-    let mut states: u32 = 0;
-    loop {
-        let part = counted(state, mem, allowance - steps, table);
-        steps += part.steps;
-        states += part.states;
-        state = part.state;
-        let ending = part.ending;
-        let Ending::Entered(_, _, _) = ending else {
-            return state.finish(steps, states, ending);
-        };
-    }
+    let mut origin = start.tlb;
+    let mut maps = kept_maps(origin);
+    by_turns(start, mem, allowance, true, table, &mut maps, &mut origin)
+}
+
+// The same with maps that are kept from one run to the next, `kept_maps` having made the first: for short runs one after the other.
+pub fn run_through_kept(
+    start: State,
+    mem: &mut [u8],
+    allowance: u16,
+    table: &Table,
+    maps: &mut [[u16; 256]],
+    origin: &mut [u32; 8],
+) -> Finished
+    requires { ⌜ (length (now mem) ≡ 65536) × (now table ≡ tableOf) × Kept (now origin) (now maps) ⌝ }
+    ensures answer { λ r. ⌜ r ≡ def.finished (def.throughOf allowance start (now (mem .entry))) ⌝ }
+    ensures memory { λ r. ⌜ now (mem .exit) ≡ (def.throughOf allowance start (now (mem .entry))) .memory ⌝ }
+    ensures kept { λ r. ⌜ Kept (now (origin .exit)) (now (maps .exit)) ⌝ }
+{
+    by_turns(start, mem, allowance, true, table, maps, origin)
 }

@@ -1,6 +1,6 @@
 -- The answer of an exported call in one number: the refusal's number × 2^32 + P, or what the call gives.
 -- Assumes nothing.
-use mathlib.Core.Path.{_≡_, ap, _∙_}
+use mathlib.Core.Path.{_≡_, ap}
 use Prim.Native.Nat.{ℕ, _%_, _*_, _+_, _/_, _<_, _≤_}
 use native.Mathlib.Omega.{arith}
 use Rattle.call.specs.Call.{Called, called}

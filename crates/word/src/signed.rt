@@ -2,16 +2,12 @@
 ghost use mathlib.Core.Path.{_≡_};
 ghost use Rattle.word.specs.Signed.{signed, signed4, word};
 
-// The signed number that has the bits of `w`.
+// The signed number that has the bits of `w`: 65,536 less where the uppermost of them is set.
 pub fn to_signed(w: u16) -> i16
     ensures { λ r. ⌜ r ≡ signed w ⌝ }
 {
-    if w < 32768 {
-        w as i16
-    } else {
-        let below = 65535 - w;
-        -1 - below as i16
-    }
+    let top = (w / 32768) as i32;
+    (w as i32 - top * 65536) as i16
 }
 
 // The word that has the bits of `x`: x modulo 65,536.

@@ -1,37 +1,32 @@
--- `alu::sum_overflows` meets its contract: by the place of the sum among the signed words.
+-- `alu::sum_overflows` meets its contract: the sum fits 32 bits, and the two tests are those of a number that does not fit 16.
 -- Assumes nothing.
 use borrow.Author.Needs.{needs}
-use Rattle.alu.proofs.Overflow.{sum-high, sum-low}
+use Rattle.alu.proofs.Overflow.{sum-fits, sum-outside, wide-fits}
 use Rattle.alu.proofs.sum_overflows.Statement.{statement}
 use Rattle.alu.proofs.sum_overflows.Tie as tie
 
-biased-requires : tie.Need-biased-requires
-biased-requires c κs = search needs
+to-signed-requires : tie.Need-to-signed-requires
+to-signed-requires c κs = search needs
 
-biased-requires-2 : tie.Need-biased-requires-2
-biased-requires-2 c κs = search needs
+cast-sum : tie.Need-cast-sum
+cast-sum c = wide-fits (c .to-signed .result) (c .to-signed .ok)
+
+to-signed-requires-2 : tie.Need-to-signed-requires-2
+to-signed-requires-2 c κs = search needs
+
+cast-sum-2 : tie.Need-cast-sum-2
+cast-sum-2 c = wide-fits (c .to-signed2 .result) (c .to-signed2 .ok)
 
 add-sum : tie.Need-add-sum
-add-sum c = search needs
+add-sum c =
+    sum-fits (c .before .to-signed .result) (c .to-signed2 .result) (c .before .to-signed .ok) (c .to-signed2 .ok)
 
 returns : tie.Need-returns
 returns c =
-    sum-low _ _ _ _
-    (c .before .before .before .fits .a .fits)
-    (c .before .before .before .fits .b .fits)
-    (c .before .before .biased .ensures)
-    (c .before .biased2 .ensures)
-    (c .if1 .taken)
-
-returns-2 : tie.Need-returns-2
-returns-2 c =
-    sum-high _ _ _ _
-    (c .before .before .before .fits .a .fits)
-    (c .before .before .before .fits .b .fits)
-    (c .before .before .biased .ensures)
-    (c .before .biased2 .ensures)
-    (c .if1 .left)
+    rw (← c .before .to-signed .ensures, ← c .to-signed2 .ensures)
+    (sum-outside (c .before .to-signed .result) (c .to-signed2 .result) (c .before .to-signed .ok) (c .to-signed2 .ok))
 
 pub sum-overflows-spec : {M : Type 1} → statement M
 sum-overflows-spec =
-    tie.close (tie.spec biased-requires biased-requires-2 add-sum returns returns-2)
+    tie.close
+    (tie.spec to-signed-requires cast-sum to-signed-requires-2 cast-sum-2 add-sum returns)

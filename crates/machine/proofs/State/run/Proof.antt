@@ -1,6 +1,7 @@
 -- `machine::State::run` meets its contract.
 -- Assumes nothing.
-use mathlib.Core.Path.{sym, _∙_}
+use mathlib.Core.Bool.{false}
+use mathlib.Core.Path.{refl, sym, _∙_}
 use Prim.Native.Nat.{_-_}
 use native.Mathlib.Omega.{arith}
 use borrow.Author.Needs.{needs}
@@ -9,13 +10,13 @@ use Rattle.machine.proofs.State.run.Statement.{statement}
 use Rattle.machine.proofs.State.run.Tie as tie
 
 abbrev Inv-loop : tie.InvT-loop
-Inv-loop mem₀ allowance table state₀ steps₀ states₀ mem state steps states = Reached allowance state₀ mem₀ state mem steps states
+Inv-loop mem₀ allowance table state₀ steps₀ states₀ mem state steps states = Reached false allowance state₀ mem₀ state mem steps states
 
 abbrev μ-loop : tie.MeasureT-loop
 μ-loop mem₀ allowance table state₀ steps₀ states₀ mem state steps states = allowance - steps
 
 loop-holds : tie.Need-loop-holds Inv-loop μ-loop
-loop-holds c = start _ _ _ (c .before .pre .0)
+loop-holds c = start false _ _ _ (c .before .pre .0)
 
 enum-told : tie.Need-enum-told Inv-loop μ-loop
 enum-told c = search needs
@@ -87,7 +88,7 @@ returns-4 c =
     let turn = stepped .before .before .before .before .before in
     ended
     (at-entry (turn .loop .inv) (stepped .before .before .before .enum-told3 .given .1) (stepped .before .before .if1 .left)
-    (stepped .step .ensures) (c .before .before .before .before .before .states-of .ensures) (c .before .before .event .given .1))
+    (stepped .step .ensures) (c .before .before .before .before .before .states-of .ensures) refl (c .before .before .event .given .1))
     (c .finish4 .ensures)
 
 enum-told-4 : tie.Need-enum-told-4 Inv-loop μ-loop

@@ -1,7 +1,10 @@
 -- `runner::ahead::ahead` meets its contract.
 -- Assumes nothing.
+use mathlib.Core.Path.{_∙_}
 use native.Mathlib.Omega.{arith}
 use borrow.Author.Needs.{needs}
+use Rattle.pages.specs.Kept.{kept-mapped}
+use Rattle.pages.specs.Maps.{bit-below}
 use Rattle.runner.specs.Goes.{none}
 use Rattle.runner.proofs.ahead.ahead.Statement.{statement}
 use Rattle.runner.proofs.ahead.ahead.Tie as tie
@@ -9,21 +12,87 @@ use Rattle.runner.proofs.ahead.ahead.Tie as tie
 ready-requires : tie.Need-ready-requires
 ready-requires c κs = search needs
 
+translates-requires : tie.Need-translates-requires
+translates-requires c κs = search needs
+
+renew-requires : tie.Need-renew-requires
+renew-requires c κs = search needs
+
+cast-stretch : tie.Need-cast-stretch
+cast-stretch c = search needs
+
+mul-stretch : tie.Need-mul-stretch
+mul-stretch c = omega (arith, bit-below (c .before .before .before .before .before .before .before .translates .result))
+
+index-1-stretch : tie.Need-index-1-stretch
+index-1-stretch c =
+    let renewed = c .before .before in
+    omega (arith, bit-below (c .before .before .before .before .before .before .before .translates .result), renewed .renew .kept .0, renewed .before .before .before .if3 .taken)
+
 stretch-requires : tie.Need-stretch-requires
-stretch-requires c κs = (c .before .before .before .before .before .pre, c .before .before .ready .ensures (c .before .if2 .taken))
+stretch-requires c κs =
+    let renewed = c .before .before .before in
+    let tested = renewed .before .before .before in
+    let readied = tested .before .before .before in
+    let start = readied .before .before .before .before in (
+      start .pre .0,
+      readied .before .ready .ensures (readied .if2 .taken),
+      rw (← tested .before .before .translates .ensures)
+          (kept-mapped (tested .before .before .translates .result) (start .args .state .tlb) (renewed .renew .last .1 .0) (renewed .renew .last .0)
+          (renewed .renew .kept .0 ∙ tested .if3 .taken) (renewed .renew .ensures .0) (renewed .renew .ensures .1)),
+    )
 
 same-length : tie.Need-same-length
 same-length c = search needs
 
+same-length-2 : tie.Need-same-length-2
+same-length-2 c = search needs
+
 returns : tie.Need-returns
 returns c = search needs
 
+page-map-requires : tie.Need-page-map-requires
+page-map-requires c κs = search needs
+
+stretch-requires-2 : tie.Need-stretch-requires-2
+stretch-requires-2 c κs =
+    let made = c .before .before in
+    let readied = made .before .before .before .before in
+    let start = readied .before .before .before .before in (
+      start .pre .0,
+      readied .before .ready .ensures (readied .if2 .taken),
+      rw (← made .before .before .before .translates .ensures) (made .page-map .ensures),
+    )
+
+same-length-3 : tie.Need-same-length-3
+same-length-3 c = search needs
+
 returns-2 : tie.Need-returns-2
-returns-2 c = (none, (omega arith, omega arith))
+returns-2 c = search needs
 
 returns-3 : tie.Need-returns-3
-returns-3 c = (none, (omega arith, omega arith))
+returns-3 c = (none, ((omega arith, omega arith), c .before .before .before .before .pre .1))
+
+returns-4 : tie.Need-returns-4
+returns-4 c = (none, ((omega arith, omega arith), c .before .before .pre .1))
 
 pub ahead-spec : {M : Type 1} → statement M
 ahead-spec =
-    tie.close (tie.spec ready-requires stretch-requires same-length returns returns-2 returns-3)
+    tie.close
+    (tie.spec
+    ready-requires
+    translates-requires
+    renew-requires
+    cast-stretch
+    mul-stretch
+    index-1-stretch
+    stretch-requires
+    same-length
+    same-length-2
+    returns
+    page-map-requires
+    stretch-requires-2
+    same-length-3
+    returns-2
+    returns-3
+    returns-4)

@@ -10,12 +10,6 @@ spread-requires c κs = search needs
 result-of-requires : tie.Need-result-of-requires
 result-of-requires c κs = search needs
 
-translates-requires : tie.Need-translates-requires
-translates-requires c κs = search needs
-
-page-map-requires : tie.Need-page-map-requires
-page-map-requires c κs = search needs
-
 upper-flags-requires : tie.Need-upper-flags-requires
 upper-flags-requires c κs = search needs
 
@@ -32,12 +26,10 @@ returns : tie.Need-returns
 returns c =
     let quick′ = c .before .before .before .before .quick in
     let upper′ = c .before .before .before .before .before .upper-flags in
-    let mapped = c .before .before .before .before .before .before .before .before .before in
-    let flagged = mapped .before .before .before in
+    let flagged = c .before .before .before .before .before .before .before .before in
     let start = flagged .before .before .before .before in
     let flags = flagged .result-of .ensures (start .pre .1 .apart) in
-    let g = quick′ .ensures .0 .goes (start .args .state) (start .pre .1) (rw (← mapped .before .translates .ensures) (mapped .page-map .ensures))
-    (upper′ .ensures .0) in (
+    let g = quick′ .ensures .0 .goes (start .args .state) (start .pre .1) (start .pre .2) (upper′ .ensures .0) in (
       rw (c .gather .ensures) (rw (flags .0, flags .1, flagged .before .before .spread .ensures) at g),
       (quick′ .ensures .1 .0, quick′ .ensures .1 .1),
     )
@@ -48,8 +40,6 @@ stretch-spec =
     (tie.spec
     spread-requires
     result-of-requires
-    translates-requires
-    page-map-requires
     upper-flags-requires
     quick-requires
     gather-requires

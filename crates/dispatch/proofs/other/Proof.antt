@@ -1,10 +1,10 @@
--- `hot::Hot::other` meets its contract.
+-- `dispatch::other` meets its contract.
 -- Assumes nothing.
 use mathlib.Core.Path.{refl}
 use Rattle.hot.specs.Tells.{stop}
 use borrow.Author.Needs.{needs}
-use Rattle.hot.proofs.Hot.other.Statement.{statement}
-use Rattle.hot.proofs.Hot.other.Tie as tie
+use Rattle.dispatch.proofs.other.Statement.{statement}
+use Rattle.dispatch.proofs.other.Tie as tie
 
 stop-requires : tie.Need-stop-requires
 stop-requires c κs = search needs

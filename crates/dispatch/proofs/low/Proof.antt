@@ -1,9 +1,9 @@
--- `hot::Hot::low` meets its contract.
+-- `dispatch::low` meets its contract.
 -- Assumes nothing.
 use Rattle.hot.specs.Tells.{plain}
 use borrow.Author.Needs.{needs}
-use Rattle.hot.proofs.Hot.low.Statement.{statement}
-use Rattle.hot.proofs.Hot.low.Tie as tie
+use Rattle.dispatch.proofs.low.Statement.{statement}
+use Rattle.dispatch.proofs.low.Tie as tie
 
 no-requires : tie.Need-no-requires
 no-requires c κs = search needs
