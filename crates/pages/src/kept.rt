@@ -31,18 +31,16 @@ fn same(a: [u32; 8], b: [u32; 8]) -> bool
     true
 }
 
-// The maps made fit for a machine that translates by this TLB, where it is `on`. `origin` is the TLB that they were made of.
-pub fn renew(maps: &mut [[u16; 256]], origin: &mut [u32; 8], on: bool, tlb: [u32; 8])
+// The maps made fit for a machine with this TLB. `origin` is the TLB that they were made of.
+pub fn renew(maps: &mut [[u16; 256]], origin: &mut [u32; 8], tlb: [u32; 8])
     requires { ⌜ (length (now maps) ≡ 2) × Kept (now origin) (now maps) ⌝ }
     ensures kept { λ _. ⌜ Kept (now (origin .exit)) (now (maps .exit)) ⌝ }
-    ensures fits { λ _. ⌜ (on ≡ true → now (origin .exit) ≡ tlb) ⌝ }
+    ensures fits { λ _. ⌜ now (origin .exit) ≡ tlb ⌝ }
 {
-    if on {
-        let made_of = *origin;
-        if same(made_of, tlb) {
-            return;
-        }
-        *origin = tlb;
-        maps[1] = by_tlb(tlb);
+    let made_of = *origin;
+    if same(made_of, tlb) {
+        return;
     }
+    *origin = tlb;
+    maps[1] = by_tlb(tlb);
 }

@@ -4,6 +4,7 @@ ghost use mathlib.Core.Path.{_≡_};
 ghost use Prim.Native.Nat.{_*_, _≤_};
 ghost use lib.ListN.{length};
 ghost use Rattle.alu.specs.Alu.{signOf, zeroOf};
+ghost use Rattle.machine.specs.Plan.{translates};
 ghost use Rattle.pages.specs.Kept.{Kept};
 ghost use Rattle.runner.specs.Goes.{Goes, Ready};
 ghost use Rattle.refinement.specs.Statement.{MapOf, hot, hotState};
@@ -128,6 +129,18 @@ fn ready(state: State) -> bool
     }
 }
 
+// The maps made fit for the machine, which needs that of its TLB where it translates.
+fn fit(state: State, maps: &mut [[u16; 256]], origin: &mut [u32; 8])
+    requires { ⌜ (length (now maps) ≡ 2) × Kept (now origin) (now maps) ⌝ }
+    ensures kept { λ _. ⌜ Kept (now (origin .exit)) (now (maps .exit)) ⌝ }
+    ensures fits { λ _. ⌜ (translates state ≡ true → now (origin .exit) ≡ state .tlb) ⌝ }
+{
+    if state.translates() {
+        let tlb = state.tlb;
+        renew(maps, origin, tlb);
+    }
+}
+
 // Plain instructions, where there may be any.
 pub fn ahead(
     state: State,
@@ -144,11 +157,11 @@ pub fn ahead(
     if allowance != 0 {
         if ready(state) {
             let on = state.translates();
-            let tlb = state.tlb;
             if maps.len() == MAPS {
-                renew(maps, origin, on, tlb);
+                fit(state, maps, origin);
                 return stretch(state, mem, allowance, &maps[on as usize]);
             }
+            let tlb = state.tlb;
             let map = page_map(on, tlb);
             return stretch(state, mem, allowance, &map);
         }

@@ -1,7 +1,6 @@
 -- `pages::kept::renew` meets its contract.
 -- Assumes nothing.
-use mathlib.Core.Bool.{false≢true}
-use mathlib.Core.Path.{refl, sym, _∙_}
+use mathlib.Core.Path.{refl}
 use borrow.Author.Needs.{needs}
 use Rattle.pages.specs.Kept.{kept-renewed}
 use Rattle.pages.proofs.kept.renew.Statement.{statement}
@@ -11,7 +10,7 @@ same-requires : tie.Need-same-requires
 same-requires c κs = search needs
 
 returns : tie.Need-returns
-returns c = (c .before .before .before .before .pre .1, λ _. c .before .same .ensures (c .if2 .taken))
+returns c = (c .before .before .before .pre .1, c .before .same .ensures (c .if1 .taken))
 
 by-tlb-requires : tie.Need-by-tlb-requires
 by-tlb-requires c κs = search needs
@@ -24,11 +23,8 @@ same-length c = search needs
 
 returns-2 : tie.Need-returns-2
 returns-2 c =
-    let s = c .before .before .before .before .before in
-    (kept-renewed _ _ (c .by-tlb .result) (s .args .maps .now) (s .pre .0) (s .pre .1) (c .by-tlb .ensures), λ _. refl)
-
-returns-3 : tie.Need-returns-3
-returns-3 c = (c .before .pre .1, λ e. absurd (false≢true (sym (c .if1 .left) ∙ e)))
+    let s = c .before .before .before .before in
+    (kept-renewed _ _ (c .by-tlb .result) (s .args .maps .now) (s .pre .0) (s .pre .1) (c .by-tlb .ensures), refl)
 
 pub renew-spec : {M : Type 1} → statement M
 renew-spec =
@@ -39,5 +35,4 @@ renew-spec =
     by-tlb-requires
     slice-set-from-maps
     same-length
-    returns-2
-    returns-3)
+    returns-2)

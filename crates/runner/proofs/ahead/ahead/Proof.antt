@@ -1,6 +1,6 @@
 -- `runner::ahead::ahead` meets its contract.
 -- Assumes nothing.
-use mathlib.Core.Path.{_∙_}
+use mathlib.Core.Path.{sym, _∙_}
 use native.Mathlib.Omega.{arith}
 use borrow.Author.Needs.{needs}
 use Rattle.pages.specs.Kept.{kept-mapped}
@@ -15,31 +15,33 @@ ready-requires c κs = search needs
 translates-requires : tie.Need-translates-requires
 translates-requires c κs = search needs
 
-renew-requires : tie.Need-renew-requires
-renew-requires c κs = search needs
+fit-requires : tie.Need-fit-requires
+fit-requires c κs = search needs
 
 cast-stretch : tie.Need-cast-stretch
 cast-stretch c = search needs
 
 mul-stretch : tie.Need-mul-stretch
-mul-stretch c = omega (arith, bit-below (c .before .before .before .before .before .before .before .translates .result))
+mul-stretch c = omega (arith, bit-below (c .before .before .before .before .before .before .translates .result))
 
 index-1-stretch : tie.Need-index-1-stretch
 index-1-stretch c =
-    let renewed = c .before .before in
-    omega (arith, bit-below (c .before .before .before .before .before .before .before .translates .result), renewed .renew .kept .0, renewed .before .before .before .if3 .taken)
+    let fitted = c .before .before in
+    let tested = fitted .before .before .before in
+    omega (arith, bit-below (tested .before .translates .result), fitted .fit .kept .1 .0, tested .if3 .taken)
 
 stretch-requires : tie.Need-stretch-requires
 stretch-requires c κs =
-    let renewed = c .before .before .before in
-    let tested = renewed .before .before .before in
-    let readied = tested .before .before .before in
+    let fitted = c .before .before .before in
+    let tested = fitted .before .before .before in
+    let asked = tested .before .translates in
+    let readied = tested .before .before in
     let start = readied .before .before .before .before in (
       start .pre .0,
       readied .before .ready .ensures (readied .if2 .taken),
-      rw (← tested .before .before .translates .ensures)
-          (kept-mapped (tested .before .before .translates .result) (start .args .state .tlb) (renewed .renew .last .1 .0) (renewed .renew .last .0)
-          (renewed .renew .kept .0 ∙ tested .if3 .taken) (renewed .renew .ensures .0) (renewed .renew .ensures .1)),
+      rw (← asked .ensures)
+          (kept-mapped (asked .result) (start .args .state .tlb) (fitted .fit .last .1 .1 .0) (fitted .fit .last .1 .0)
+          (fitted .fit .kept .1 .0 ∙ tested .if3 .taken) (fitted .fit .ensures .0) (λ e. fitted .fit .ensures .1 (sym (asked .ensures) ∙ e))),
     )
 
 same-length : tie.Need-same-length
@@ -57,11 +59,12 @@ page-map-requires c κs = search needs
 stretch-requires-2 : tie.Need-stretch-requires-2
 stretch-requires-2 c κs =
     let made = c .before .before in
-    let readied = made .before .before .before .before in
+    let asked = made .before .before .before in
+    let readied = asked .before in
     let start = readied .before .before .before .before in (
       start .pre .0,
       readied .before .ready .ensures (readied .if2 .taken),
-      rw (← made .before .before .before .translates .ensures) (made .page-map .ensures),
+      rw (← asked .translates .ensures) (made .page-map .ensures),
     )
 
 same-length-3 : tie.Need-same-length-3
@@ -82,7 +85,7 @@ ahead-spec =
     (tie.spec
     ready-requires
     translates-requires
-    renew-requires
+    fit-requires
     cast-stretch
     mul-stretch
     index-1-stretch
