@@ -1,18 +1,20 @@
-/* The TaC emulator: runs and bench cards, views of a machine and looks at its fault record, in buffers that the caller lends.
+/* The TaC emulator: runs and bench cards, views of a machine, looks at its fault record and simulations of a winder, in buffers that the
+ * caller lends.
  *
- * A machine is TAC_MEMORY_BYTES of memory and a state image of TAC_IMAGE_BYTES. Numbers in the image and in a report stand upper byte
- * first.
+ * A machine is TAC_MEMORY_BYTES of memory and a state image of TAC_IMAGE_BYTES. Numbers in buffers stand upper byte first.
  *
  * What a caller owes: the buffers of one call do not overlap, each has the length that is passed with it, and nothing else writes to them
- * during the call. Lengths and contents may be anything: a call tests them first, in the order of the refusals.
+ * during the call. Lengths, contents and numbers may be anything: a call tests them first, in the order of the refusals.
  *
  * Null pointers: a pointer may be null where its length is 0. Nothing is read or written through it, and the call answers as for any other
- * buffer of no bytes: memory gives refusal 1, the image 2, the report 8 unless it is that of a card without runs, and a card is the empty
- * one, which is good. A null pointer with another length is the caller's error. This is tested on the built library and not proved.
+ * buffer of no bytes: memory gives refusal 1, the image 2, the report 8 unless it is that of a card without runs, the places 9, and a card
+ * is the empty one, which is good. A null pointer with another length is the caller's error. This is tested on the built library and not
+ * proved.
  *
  * A call keeps nothing for later calls, uses its buffers and some kilobytes of stack, and calls nothing but memcpy and memset, which the
  * program has to have. Calls on separate buffers may run at the same time. Every call ends: a run after at most TAC_ALLOWANCE steps, a card
- * after at most TAC_CARD_STEPS, which take some seconds.
+ * after at most TAC_CARD_STEPS, which take some seconds, a simulation after at most TAC_WIND_STEPS in each of at most TAC_WIND_TICKS ticks,
+ * which take from some seconds to some minutes.
  */
 #ifndef TAC_H
 #define TAC_H
@@ -26,7 +28,7 @@ extern "C" {
 
 /* The version of this interface. MAJOR goes up where a caller has to change, as for another size of the image; MINOR with a new call. */
 #define TAC_VERSION_MAJOR 2
-#define TAC_VERSION_MINOR 0
+#define TAC_VERSION_MINOR 1
 
 #define TAC_MEMORY_BYTES 65536
 #define TAC_IMAGE_BYTES 84
@@ -36,6 +38,21 @@ extern "C" {
 #define TAC_CARD_REPORT_BYTES (TAC_CARD_RUNS * TAC_REPORT_BYTES)    /* enough for every card: 16,380 */
 #define TAC_ALLOWANCE 65535                                         /* at most */
 #define TAC_CARD_STEPS ((uint32_t)TAC_CARD_RUNS * TAC_ALLOWANCE)    /* at most: 89,455,275 */
+
+/* A simulation of a winder: its settings are from 1 to these. */
+#define TAC_WIND_TURNS 999     /* the label's maximum turns */
+#define TAC_WIND_NOTCHES 64    /* notches per turn */
+#define TAC_WIND_RUNDOWN 64    /* ticks from one notch that the train takes to the next */
+#define TAC_WIND_TICKS 65535
+#define TAC_WIND_STEPS 65535   /* steps in a tick */
+
+#define TAC_WIND_PLACE_BYTES 2 /* a place of a simulation: the notches standing after a tick, a word */
+
+/* The bits of the output and of the input byte that a winder uses. */
+enum {
+    TAC_OUTPUT_MOTOR = 0x01,  /* the motor winds a notch */
+    TAC_INPUT_LABEL = 0x01    /* the whole turns standing have reached the label */
+};
 
 /* Offsets in a state image. */
 enum {
@@ -146,7 +163,7 @@ enum {
     TAC_COMMAND_TIME = 8       /* milliseconds (2) that pass for each timer that is started, whatever the machine's condition */
 };
 
-/* Refusals. A call that is refused leaves memory, image and report as they were. */
+/* Refusals. A call that is refused leaves every buffer as it was. */
 enum {
     TAC_GOOD = 0,
     TAC_MEMORY_LENGTH = 1,  /* memory is not TAC_MEMORY_BYTES */
@@ -156,17 +173,20 @@ enum {
     TAC_CARD_UNKNOWN = 5,   /* the first bad command: an unknown byte */
     TAC_CARD_SHORT = 6,     /* its operands are cut short */
     TAC_CARD_BEYOND = 7,    /* its operand is beyond its values */
-    TAC_REPORT_LENGTH = 8   /* the report is too short */
+    TAC_REPORT_LENGTH = 8,  /* the report is too short */
+    TAC_WIND_SETTING = 9    /* a setting of the winder is beyond its values, or there are fewer places than ticks */
 };
 
-/* The parts of an answer: a refusal × 2^32 + P; where nothing is refused, the number of report bytes filled, or from tac_fault the fault
- * record: cause × 2^24 + missed page × 2^16 + violation address. Test TAC_REFUSAL first: a refused look has 0 in all parts of the record. */
+/* The parts of an answer: a refusal × 2^32 + P; where nothing is refused, the number of report bytes filled; from tac_fault the fault
+ * record: cause × 2^24 + missed page × 2^16 + violation address; from tac_wind the first tick over the label, or 0. Test TAC_REFUSAL first:
+ * a refused look has 0 in all parts of the record, a refused simulation 0 as if no tick were over. */
 #define TAC_REFUSAL(answer) ((unsigned)((answer) >> 32))
 #define TAC_PLACE(answer) ((uint32_t)(answer))
 #define TAC_FILLED(answer) ((uint32_t)(answer))
 #define TAC_FAULT_CAUSE(answer) ((unsigned)((answer) >> 24 & 0xFF)) /* of TAC_CAUSE bits */
 #define TAC_FAULT_MISSED(answer) ((unsigned)((answer) >> 16 & 0xFF))
 #define TAC_FAULT_VIOLATION(answer) ((unsigned)((answer) & 0xFFFF))
+#define TAC_FIRST_OVER(answer) ((uint32_t)(answer))
 
 /* A run of at most `allowance` steps. Memory and image are those after it; its 12 bytes stand at the front of the report, and the bytes
  * behind them are kept. Refusals 1, 2, 3 and 8. */
@@ -184,6 +204,16 @@ uint64_t tac_view(const uint8_t *memory, size_t memory_len, const uint8_t *image
 /* A look at the fault record: cause, missed page and violation address, whether the machine is running, halted or lost. The image is only
  * read, and IN of A4h still finds the cause. Refusals 2 and 3. */
 uint64_t tac_fault(const uint8_t *image, size_t image_len);
+
+/* A simulation of a winder with this machine, from a barrel on which no notch stands. In each tick the machine does `steps` steps, going on
+ * through kernel entries, or fewer where it halts or is lost; found so it does none, and the ticks go on. Then TAC_OUTPUT_MOTOR of the
+ * output byte, if set, winds one notch; then, on each `rundown`-th tick, counted from 1, the train takes one, if any is left.
+ * TAC_INPUT_LABEL of the input byte is clear in the first tick, and in each other one set exactly if standing / notches has reached
+ * `turns`; the image is left with it by the same rule, and the other bits are kept. The places get the notches standing after each tick, a
+ * word each; the bytes behind them are kept. It gives the first tick, counted from 1, with more standing than turns × notches, or 0 for
+ * none. Refusals 1, 2, 3 and 9. */
+uint64_t tac_wind(uint8_t *memory, size_t memory_len, uint8_t *image, size_t image_len, uint32_t turns, uint32_t notches, uint32_t rundown,
+                  uint32_t ticks, uint32_t steps, uint8_t *places, size_t places_len);
 
 #ifdef __cplusplus
 }

@@ -1,10 +1,17 @@
+#define _POSIX_C_SOURCE 200809L
+
 #include "file.h"
 
 #include "number.h"
 
 #include <errno.h>
-#include <stdio.h>
+#include <limits.h>
 #include <string.h>
+#include <sys/stat.h>
+
+#ifndef PATH_MAX
+#define PATH_MAX 4096
+#endif
 
 /* Answers false, with what the system says of an error. */
 static bool because_of(int error, const char *name, char *why) { return because(why, "%s: %s", name, strerror(error)); }
@@ -120,15 +127,46 @@ static bool open_machine(const char *name, struct machine *machine, char *why)
     return refusal == TAC_GOOD || because(why, "%s: refused %u: %s", name, refusal, refusal_words(refusal));
 }
 
+bool ends_in(const char *name, const char *ending)
+{
+    const char *dot = strrchr(name, '.');
+    return dot != NULL && strcmp(dot, ending) == 0;
+}
+
+/* The folder of a file, as stat has it, and the file's name in it. */
+static bool folder_of(const char *name, struct stat *folder, const char **last)
+{
+    char path[PATH_MAX];
+    const char *slash = strrchr(name, '/');
+    size_t length = slash == NULL ? 0 : (size_t)(slash - name) + 1;
+    if (length >= sizeof path)
+        return false;
+    memcpy(path, name, length);
+    path[length] = '\0';
+    *last = name + length;
+    return stat(length == 0 ? "." : path, folder) == 0;
+}
+
+bool same_file(const char *one, const char *other)
+{
+    struct stat first, second;
+    const char *last = one, *other_last = other;
+    bool there = stat(one, &first) == 0, other_there = stat(other, &second) == 0;
+    if (there != other_there)
+        return false;
+    if (!there && (!folder_of(one, &first, &last) || !folder_of(other, &second, &other_last)))
+        return strcmp(one, other) == 0;
+    return first.st_dev == second.st_dev && first.st_ino == second.st_ino && (there || strcmp(last, other_last) == 0);
+}
+
 enum opened open_file(const char *name, struct machine *machine, struct card *card, char *why)
 {
-    const char *dot = strrchr(name, '.'), *ending = dot == NULL ? "" : dot;
     bool read;
-    if (strcmp(ending, ".machine") == 0)
+    if (ends_in(name, ".machine"))
         return open_machine(name, machine, why) ? OPENED_MACHINE : OPENED_NOTHING;
-    if (strcmp(ending, ".card") == 0)
+    if (ends_in(name, ".card"))
         read = read_bytes(name, card->bytes, sizeof card->bytes, &card->length, why);
-    else if (strcmp(ending, ".hex") == 0)
+    else if (ends_in(name, ".hex"))
         read = read_text(name, card, why);
     else
         read = because(why, "%s: the name ends in none of .card, .hex and .machine", name);
@@ -139,6 +177,10 @@ bool load_words(const char *name, unsigned address, struct machine *machine, cha
 {
     static uint8_t bytes[TAC_MEMORY_BYTES + 1];
     size_t room = TAC_MEMORY_BYTES - address, length;
+    if (ends_in(name, ".card") || ends_in(name, ".hex"))
+        return because(why, "%s: it is a card, and no bare words", name);
+    if (ends_in(name, ".machine"))
+        return because(why, "%s: it is a machine, and no bare words", name);
     if (!read_bytes(name, bytes, room + 1, &length, why))
         return false;
     if (length > room)
@@ -153,17 +195,46 @@ bool load_words(const char *name, unsigned address, struct machine *machine, cha
     return true;
 }
 
-bool save_machine(const char *name, const struct machine *machine, char *why)
+bool test_writing(const char *name, char *why)
+{
+    struct stat entry;
+    bool there = lstat(name, &entry) == 0;
+    if (there && (stat(name, &entry) != 0 || (!S_ISREG(entry.st_mode) && !S_ISDIR(entry.st_mode))))
+        return true;
+    FILE *file = open_named(name, "ab", why);
+    if (file == NULL)
+        return false;
+    fclose(file);
+    if (!there)
+        remove(name);
+    return true;
+}
+
+bool write_file(const char *name, void (*write)(FILE *file, const void *what), const void *what, char *why)
 {
     FILE *file = open_named(name, "wb", why);
     if (file == NULL)
         return false;
-    bool written = fwrite(machine->image, 1, TAC_IMAGE_BYTES, file) == TAC_IMAGE_BYTES &&
-                   fwrite(machine->memory, 1, TAC_MEMORY_BYTES, file) == TAC_MEMORY_BYTES;
+    write(file, what);
+    bool written = !ferror(file);
     int error = errno;
     if (fclose(file) != 0) {
         error = written ? errno : error;
         written = false;
     }
-    return written || because_of(error, name, why);
+    return written || because(why, "%s: %s; the file is cut short", name, strerror(error));
 }
+
+static void write_machine(FILE *file, const void *what)
+{
+    const struct machine *machine = what;
+    fwrite(machine->image, 1, TAC_IMAGE_BYTES, file);
+    fwrite(machine->memory, 1, TAC_MEMORY_BYTES, file);
+}
+
+bool test_machine_name(const char *name, char *why)
+{
+    return ends_in(name, ".machine") || because(why, "%s: the name has to end in .machine", name);
+}
+
+bool save_machine(const char *name, const struct machine *machine, char *why) { return write_file(name, write_machine, machine, why); }

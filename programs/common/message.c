@@ -1,8 +1,10 @@
 #include "message.h"
 
+#include <errno.h>
 #include <stdarg.h>
 #include <stdio.h>
 #include <stdlib.h>
+#include <string.h>
 
 void fail(const char *format, ...)
 {
@@ -37,12 +39,22 @@ const char *refusal_words(unsigned refusal)
         "the operands are cut short",
         "an operand is beyond its values",
         "the report is too short",
+        "a setting of the winder is beyond its values, or there are fewer places than ticks",
     };
     return refusal < sizeof words / sizeof *words ? words[refusal] : "unknown";
 }
 
+static int output_error; /* of the first flush that failed, or 0 */
+
+void flush_output(void)
+{
+    if (fflush(stdout) != 0 && output_error == 0)
+        output_error = errno;
+}
+
 void end_output(void)
 {
-    if (fflush(stdout) != 0 || ferror(stdout))
-        fail("standard output can't be written");
+    flush_output();
+    if (output_error != 0 || ferror(stdout))
+        fail("standard output can't be written: %s", output_error != 0 ? strerror(output_error) : "a part of it was refused");
 }

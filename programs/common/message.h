@@ -26,6 +26,9 @@ LIKE_PRINTF(2, 3) bool because(char *why, const char *format, ...);
 /* A refusal of the library in words. */
 const char *refusal_words(unsigned refusal);
 
+/* Lets what was printed go out. Where it can't, end_output says why. */
+void flush_output(void);
+
 /* Fails if what was printed can't be written. Before another file is opened, which could get the number of an output that is closed. */
 void end_output(void);
 

@@ -27,6 +27,15 @@ bool decimal_number(const char *text, unsigned long most, unsigned long *number)
     return *number <= most;
 }
 
+const char *leading_number(const char *text, unsigned long *number)
+{
+    char *behind;
+    if (strspn(text, DECIMAL) == 0)
+        return NULL;
+    *number = strtoul(text, &behind, 10);
+    return behind;
+}
+
 bool hexadecimal_byte(const char *text, uint8_t *byte)
 {
     if (strspn(text, HEXADECIMAL) != 2 || text[2] != '\0')

@@ -1,4 +1,5 @@
-# What the checks of the programs share. A check reads it first, and is at the root of the repository then; `out` is a folder of its own, made anew.
+# What the checks of the programs share. A check reads it first, and is at the root of the repository then; `out` is a folder of its own,
+# made anew.
 unset CDPATH
 folder=$(cd "$(dirname "$0")" && pwd)
 name=${folder##*/}
@@ -32,9 +33,13 @@ echo 'int main(void) { return 0; }' >"$out/empty.c"
 if $cc $sanitize -o "$out/empty" "$out/empty.c" 2>"$out/empty.log" && "$out/empty" 2>"$out/empty.log"; then flags="$flags $sanitize"; fi
 export ASAN_OPTIONS=detect_leaks=0
 
+# Before a command: ends it where it hangs, if the system has something for that.
+bound=
+if command -v timeout >/dev/null; then bound="timeout 60"; fi
+
 # build_program: the program, in `program`.
 build_program() {
-    make -s CC="$cc" CFLAGS="$flags" out="$build" "$build/tac-$name"
+    make -s -j2 CC="$cc" CFLAGS="$flags" out="$build" "$build/tac-$name"
     program=$root/$build/tac-$name
 }
 
@@ -49,7 +54,7 @@ run() {
     want=$1
     shift
     status=0
-    "$program" "$@" 2>&1 || status=$?
+    $bound "$program" "$@" 2>&1 || status=$?
     [ "$status" -eq "$want" ] || fail "status $status, not $want: $*"
 }
 
@@ -70,4 +75,49 @@ commands() {
 # bad [ARGUMENT...]: adds to bad.out what the program prints where it ends with status 2.
 bad() {
     run 2 "$@" </dev/null >>bad.out
+}
+
+# pause SECONDS: also a part of one, where the system can.
+pause() { sleep "$1" 2>/dev/null || sleep 2; }
+
+# await WHAT COMMAND...: until the command succeeds. Where it takes a minute or more, what was begun, by its numbers in begun.id and
+# begun.processes, is killed, and the check fails: WHAT.
+await() {
+    what=$1
+    tries=600
+    shift
+    until "$@"; do
+        tries=$((tries - 1))
+        if [ $tries -eq 0 ]; then
+            kill -KILL $(cat begun.id begun.processes 2>/dev/null) 2>/dev/null || :
+            fail "$what"
+        fi
+        pause 0.1
+    done
+}
+
+# limited: what is begun behind it ends after some minutes of processor time, also where the check was ended before, if the shell can do so.
+limited() { ulimit -t 300 2>/dev/null || :; }
+
+# has_terminal: whether there is something that gives a command a terminal: script, as Linux has it.
+has_terminal() {
+    command -v script >/dev/null && SHELL=/bin/sh script -qec true /dev/null </dev/null >/dev/null 2>&1 || {
+        echo "$name: not tried on a terminal, there is no script"
+        return 1
+    }
+}
+
+# terminal COMMAND: the command, for sh, on a terminal, on which standard input is typed. What is shown there, and the command's status, is
+# in terminal.txt. The shell around the command outlives Ctrl-C, and the terminal is kept until the status has come through it: script may
+# lose what is shown last.
+terminal() {
+    rm -f begun.*
+    {
+        cat
+        await "it does not end on a terminal: $1" grep -q 'status [0-9]' terminal.txt
+        echo
+    } | (
+        limited
+        SHELL=/bin/sh sh -c 'echo $$ >begun.id; exec script -qec "$1" /dev/null' sh "trap : INT; $1; echo status \$?; read end"
+    ) >terminal.txt
 }

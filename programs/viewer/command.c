@@ -200,7 +200,8 @@ static bool do_save(struct line *line)
 {
     if (line->count != 1)
         return because(line->why, "save FILE");
-    return save_machine(line->words[0], &line->session->machine, line->why);
+    return session_may_save(line->session, line->words[0], line->why) &&
+           save_machine(line->words[0], &line->session->machine, line->why);
 }
 
 static bool do_help(struct line *line)
@@ -230,20 +231,41 @@ static const struct command commands[] = {
     {"next", "n", "[N]", "N commands of the card; a run is done to its end", do_next},
     {"rest", "r", "", "the rest of the card", do_rest},
     {"trace", "", "on|off", "a line for each step", do_trace},
-    {"save", "", "FILE", "writes the machine", do_save},
+    {"save", "", "FILE", "writes the machine, to a name that ends in .machine", do_save},
     {"help", "h", "", "this list", do_help},
     {"quit", "q", "", "ends; so does the end of the commands", NULL},
 };
+
+#define HELP_LEFT 34 /* columns before what a command does */
+#define HELP_COLUMNS 80
+
+/* What a command does, from column HELP_LEFT on, in as many lines as it takes. */
+static void print_action(const char *text)
+{
+    int room = HELP_COLUMNS - HELP_LEFT, length = (int)strlen(text);
+    while (length > room) {
+        int part = room;
+        while (text[part] != ' ')
+            part--;
+        printf("%.*s\n%*s", part, text, HELP_LEFT, "");
+        text += part + 1;
+        length -= part + 1;
+    }
+    printf("%s\n", text);
+}
 
 void print_commands(void)
 {
     for (size_t k = 0; k < sizeof commands / sizeof *commands; k++) {
         const struct command *command = &commands[k];
-        printf("  %-8s %-2s %-19s %s\n", command->name, command->letter, command->operands, command->help);
+        printf("  %-8s %-2s %-19s ", command->name, command->letter, command->operands);
+        print_action(command->help);
     }
-    printf("Addresses and values are hexadecimal, counts and milliseconds decimal. An address is taken as the machine stands (translated\n"
-           "if the MMU is on and P=0), after l as by a user program (translated if the MMU is on), after p as physical. LIMIT is %d\n"
-           "without a word. Time passes only by time and by command 08 of a card.\n",
+    printf("Addresses and values are hexadecimal, counts and milliseconds decimal. An\n"
+           "address is taken as the machine stands (translated if the MMU is on and P=0),\n"
+           "after l as by a user program (translated if the MMU is on), after p as\n"
+           "physical. LIMIT is %d without a word. Time passes only by time and by\n"
+           "command 08 of a card.\n",
            LIMIT);
 }
 

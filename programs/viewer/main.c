@@ -7,7 +7,7 @@
 #include "command.h"
 #include "file.h"
 #include "message.h"
-#include "number.h"
+#include "option.h"
 #include "session.h"
 #include "show.h"
 
@@ -18,16 +18,11 @@
 
 const char program_name[] = "tac-viewer";
 
-#define LOADS_MOST 16
 #define LINE_BYTES 1024
 
 struct options {
     const char *file, *save, *script;
-    struct {
-        unsigned address;
-        const char *file;
-    } loads[LOADS_MOST];
-    int count;
+    struct loads loads;
     bool trace;
 };
 
@@ -42,75 +37,55 @@ struct source {
 static void print_help(void)
 {
     printf("usage: tac-viewer [OPTION...] [FILE]\n"
-           "  FILE              a card (.card, .hex) or a machine (.machine); without it the machine is zero but FLAG 0040h\n"
-           "  --load ADDR FILE  bare words, to memory from ADDR (hexadecimal, physical) on\n"
+           "  FILE              a card (.card, .hex) or a machine (.machine); without it the\n"
+           "                    machine is zero but FLAG 0040h\n"
+           "  --load ADDR FILE  bare words, to memory from ADDR (hexadecimal, physical) on;\n"
+           "                    also several times\n"
            "  --script FILE     commands; without it they come from standard input\n"
-           "  --trace           prints each step: PC, words, instruction, states, what changed\n"
-           "  --save FILE       writes the machine at the end: its image and then its memory\n"
-           "  --help            this text\n"
+           "  --trace           prints each step: PC, words, instruction, states, changes\n"
+           "  --save FILE       writes the machine at the end, to a name that ends in\n"
+           "                    .machine: its image and then its memory. It may be the\n"
+           "                    machine that was opened\n"
+           "  --help, -h        this text\n"
            "Commands:\n");
     print_commands();
-}
-
-/* The next word, which an option needs. */
-static const char *operand(const char *option, int argc, char **argv, int *at)
-{
-    if (*at + 1 >= argc)
-        fail("%s: a word is missing; --help says more", option);
-    return argv[++*at];
-}
-
-static void take_load(struct options *options, int argc, char **argv, int *at)
-{
-    unsigned long address;
-    const char *word = operand("--load", argc, argv, at);
-    if (options->count == LOADS_MOST)
-        fail("--load: at most %d", LOADS_MOST);
-    if (!hexadecimal_number(word, 0xFFFF, &address))
-        fail("--load: %s is no address", word);
-    options->loads[options->count].address = (unsigned)address;
-    options->loads[options->count++].file = operand("--load", argc, argv, at);
 }
 
 /* Takes the options. False where only help is asked for. */
 static bool take_options(struct options *options, int argc, char **argv)
 {
+    static const char *const operands[] = {"--load", "--script", "--save", NULL};
     for (int at = 1; at < argc; at++) {
         const char *word = argv[at];
-        if (strcmp(word, "--help") == 0)
+        if (is_help(word))
             return false;
         else if (strcmp(word, "--load") == 0)
-            take_load(options, argc, argv, &at);
+            take_load(&options->loads, argc, argv, &at);
         else if (strcmp(word, "--script") == 0)
-            options->script = operand(word, argc, argv, &at);
+            take_operand(&options->script, NAME_MISSING, argc, argv, &at);
         else if (strcmp(word, "--save") == 0)
-            options->save = operand(word, argc, argv, &at);
+            take_operand(&options->save, NAME_MISSING, argc, argv, &at);
         else if (strcmp(word, "--trace") == 0)
-            options->trace = true;
-        else if (word[0] == '-')
-            fail("%s is no option; --help lists them", word);
-        else if (options->file != NULL)
-            fail("%s: one file is open already", word);
+            take_flag(&options->trace, word);
         else
-            options->file = word;
+            take_file(&options->file, word, operands);
     }
     return true;
 }
 
-static void open_all(struct session *session, const struct options *options)
+/* The session. What can't be written at its end is found first. */
+static void begin(struct session *session, const struct options *options)
 {
     char why[WHY_BYTES];
-    machine_reset(&session->machine);
+    session->file = options->file;
+    session->script = options->script;
+    session->loads = &options->loads;
+    if (options->save != NULL && !session_may_save(session, options->save, why))
+        fail("--save %s", why);
+    if (options->save != NULL)
+        must_be_writable(options->save);
     session->trace = options->trace;
-    if (options->file != NULL) {
-        enum opened opened = open_file(options->file, &session->machine, &session->feed.card, why);
-        if (opened == OPENED_NOTHING)
-            fail("%s", why);
-        session->feed.open = opened == OPENED_CARD;
-    }
-    for (int k = 0; k < options->count; k++)
-        if (!load_words(options->loads[k].file, options->loads[k].address, &session->machine, why))
-            fail("%s", why);
+    session->feed.open = open_all(options->file, &options->loads, &session->machine, &session->feed.card);
 }
 
 static struct source open_source(const char *script)
@@ -130,7 +105,7 @@ static bool read_line(struct source *source, char *text)
 {
     if (source->terminal)
         printf("tac> ");
-    fflush(stdout);
+    flush_output();
     source->line++;
     if (fgets(text, LINE_BYTES, source->file) == NULL) {
         if (ferror(source->file))
@@ -173,7 +148,7 @@ int main(int argc, char **argv)
         end_output();
         return 0;
     }
-    open_all(&session, &options);
+    begin(&session, &options);
     struct source source = open_source(options.script);
     if (source.terminal)
         greet(&session);

@@ -1,6 +1,7 @@
 #include "session.h"
 
 #include "fault.h"
+#include "file.h"
 #include "look.h"
 #include "show.h"
 
@@ -114,4 +115,14 @@ void session_feed(struct session *session, unsigned long commands)
         while (session->in_run)
             step(session, &one);
     }
+}
+
+bool session_may_save(const struct session *session, const char *name, char *why)
+{
+    const char *card = session->file != NULL && !ends_in(session->file, ".machine") ? session->file : NULL;
+    if (!test_unread(name, card, session->loads, why))
+        return false;
+    if (session->script != NULL && same_file(name, session->script))
+        return because(why, "%s: it has the commands that are read", name);
+    return test_machine_name(name, why);
 }

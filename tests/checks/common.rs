@@ -1,7 +1,7 @@
 //! Small starts for single tests, and calls by each emulator.
 
 use tac_tests::assemble::put_words;
-use tac_tests::case::{difference, perform, Call, Case, Emulator, Outcome, OWN};
+use tac_tests::case::{differ, difference, perform, shrink, Call, Case, Emulator, Outcome, OWN};
 use tac_tests::emulator::{Ending, Machine, Report, P};
 #[cfg(feature = "library")]
 use tac_tests::ffi::LIBRARY;
@@ -43,6 +43,19 @@ pub fn user(words: &[u16]) -> Machine {
 
 pub fn put(m: &mut Machine, address: usize, words: &[u16]) {
     put_words(&mut m.memory, address, words);
+}
+
+/// An image whose bytes are as many different good values as there can be.
+pub fn full_image() -> [u8; image::IMAGE] {
+    let mut bytes = std::array::from_fn(|k| 0x80 + k as u8);
+    bytes[image::FLAG..image::FLAG + 2].copy_from_slice(&[0x00, 0xEF]);
+    bytes[image::PENDING] = 0x03;
+    (bytes[image::MMU], bytes[image::CONDITION], bytes[image::CAUSE]) = (1, 2, 3);
+    bytes[image::TLB..image::TIMERS].iter_mut().skip(1).step_by(3).for_each(|byte| *byte &= 0x9F);
+    for timer in bytes[image::TIMERS..].chunks_mut(image::TIMER) {
+        timer[image::CONTROL..].copy_from_slice(&[0x80, 0x01, 0x00, 0x01]);
+    }
+    bytes
 }
 
 /// A call on this machine, with a report of 12 bytes.
@@ -112,4 +125,17 @@ pub fn check_entry(before: &Machine, after: &Machine, number: u8, saved_pc: u16)
 /// "refused N P" of an answer.
 pub fn refusal(answer: u64) -> (u64, u64) {
     (answer >> 32, answer & 0xFFFF_FFFF)
+}
+
+/// The first of so many drawn cases in which a wrong emulator differs from this package's, made small.
+pub fn smallest_difference(wrong: &Emulator, count: u64, mut draw: impl FnMut(u64, &mut Case)) -> Case {
+    let mut case = Case::empty();
+    let found = (0..count).any(|index| {
+        draw(index, &mut case);
+        differ(&OWN, wrong, &case)
+    });
+    assert!(found, "{}", wrong.name);
+    let small = shrink(&case, &|case| differ(&OWN, wrong, case));
+    assert!(differ(&OWN, wrong, &small), "{}", wrong.name);
+    small
 }

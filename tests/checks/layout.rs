@@ -6,7 +6,7 @@ use std::collections::BTreeMap;
 use std::fs;
 use tac_tests::card::LONGEST;
 use tac_tests::emulator::MEMORY;
-use tac_tests::{image, report};
+use tac_tests::{image, report, winder};
 
 type Numbers = BTreeMap<String, usize>;
 
@@ -86,6 +86,7 @@ fn header() {
         ("TAC_CARD_SHORT", 6),
         ("TAC_CARD_BEYOND", 7),
         ("TAC_REPORT_LENGTH", 8),
+        ("TAC_WIND_SETTING", 9),
     ];
     assert_eq!(enum_with(&header, "TAC_GOOD"), numbers(&refusals));
     let own = [
@@ -95,10 +96,14 @@ fn header() {
         ("TAC_CARD_BYTES", LONGEST),
         ("TAC_TLB_ENTRY_BYTES", 3),
         ("TAC_TIMER_BYTES", image::TIMER),
+        ("TAC_WIND_PLACE_BYTES", winder::PLACE),
     ];
     assert_eq!(defined(&header, |name| name.ends_with("_BYTES")), numbers(&own));
     let timer = defined(&header, |name| name.starts_with("TAC_TIMER_") && !name.ends_with("_BYTES"));
     assert_eq!(timer, in_header("TAC_TIMER_", &TIMER));
+    let most = winder::NAMES.iter().zip(winder::MOST);
+    let most = most.map(|(name, n)| (format!("TAC_WIND_{}", name.to_uppercase()), n as usize)).collect();
+    assert_eq!(defined(&header, |name| name.starts_with("TAC_WIND_") && !name.ends_with("_BYTES")), most);
 }
 
 /// `#define NAME N` for these names.

@@ -9,7 +9,7 @@ use tac_tests::card;
 use tac_tests::case::{self, go_on, perform, Call, Case, Emulator, Outcome, OWN};
 use tac_tests::emulator::*;
 use tac_tests::generate::Maker;
-use tac_tests::image::{self, IMAGE};
+use tac_tests::image;
 use tac_tests::looks::{self, Looks};
 use tac_tests::replay::{parse, Replay};
 use tac_tests::report::{ENDING, NUMBER};
@@ -29,19 +29,6 @@ fn look(m: &Machine) -> u64 {
 /// A machine that is zero but for its fault record.
 fn record(cause: u8, missed: u8, violation: u16) -> Machine {
     Machine { cause, missed, violation, ..Machine::new() }
-}
-
-/// An image whose bytes are as many different good values as there can be.
-fn full_image() -> [u8; IMAGE] {
-    let mut bytes = std::array::from_fn(|k| 0x80 + k as u8);
-    bytes[image::FLAG..image::FLAG + 2].copy_from_slice(&[0x00, 0xEF]);
-    bytes[image::PENDING] = 0x03;
-    (bytes[image::MMU], bytes[image::CONDITION], bytes[image::CAUSE]) = (1, 2, 3);
-    bytes[image::TLB..image::TIMERS].iter_mut().skip(1).step_by(3).for_each(|byte| *byte &= 0x9F);
-    for timer in bytes[image::TIMERS..].chunks_mut(image::TIMER) {
-        timer[image::CONTROL..].copy_from_slice(&[0x80, 0x01, 0x00, 0x01]);
-    }
-    bytes
 }
 
 /// "It must show the fault cause": with the missed page and the violation address, each in its place.

@@ -14,3 +14,4 @@ mod replay;
 mod rulings;
 mod scenarios;
 mod timers;
+mod winder;

@@ -1,11 +1,12 @@
-//! The eight refusals, their order and positions, with everything untouched. With the feature `library` the library is
-//! tried as well.
+//! The first eight refusals, their order and positions, with everything untouched; the ninth is tried in `winder`. With
+//! the feature `library` the library is tried as well.
 
 use crate::common::*;
 use tac_tests::assemble::put_words;
 use tac_tests::card;
 use tac_tests::case::{Call, Case};
 use tac_tests::image;
+use tac_tests::winder::Settings;
 
 /// A good case: a program of two steps, a report of 40 bytes.
 fn good(call: Call) -> Case {
@@ -17,9 +18,14 @@ fn three_calls() -> [Call; 3] {
     [Call::Run(7), Call::View, Call::Card(vec![0x04, 0x00, 0x07])]
 }
 
+/// The calls that take memory: a simulation has places in the report's stead.
+fn memory_calls() -> Vec<Call> {
+    [&three_calls()[..], &[Call::Wind(Settings::of([1, 1, 1, 20, 7]))]].concat()
+}
+
 /// All calls: each takes an image.
-fn four_calls() -> Vec<Call> {
-    [&three_calls()[..], &[Call::Fault]].concat()
+fn all_calls() -> Vec<Call> {
+    [&memory_calls()[..], &[Call::Fault]].concat()
 }
 
 /// The answer; on a refusal nothing is touched.
@@ -44,7 +50,7 @@ fn nothing_refused() {
 
 #[test]
 fn memory_length() {
-    for call in three_calls() {
+    for call in memory_calls() {
         for length in [0, 1, 65_535, 65_537, 70_000] {
             let mut case = good(call.clone());
             case.memory.resize(length, 0);
@@ -58,7 +64,7 @@ fn memory_length() {
 
 #[test]
 fn image_length() {
-    for call in four_calls() {
+    for call in all_calls() {
         for length in [0, 1, 68, 83, 85, 200] {
             let mut case = good(call.clone());
             case.image.resize(length, 0xFF);
@@ -73,7 +79,7 @@ fn image_length() {
 /// Every bit of the image: those beyond their values are refused, no other.
 #[test]
 fn image_fields() {
-    for call in four_calls() {
+    for call in all_calls() {
         for bit in 0..image::IMAGE * 8 {
             let mut case = good(call.clone());
             let (byte, mask) = (bit / 8, 0x80u8 >> (bit % 8));
@@ -102,7 +108,7 @@ fn image_fields() {
             }
         }
     }
-    for call in four_calls() {
+    for call in all_calls() {
         let mut case = good(call);
         case.image[image::CONDITION] = 3;
         assert_eq!(answer(&case), (3, 0));
@@ -142,7 +148,7 @@ fn timer_fields() {
     let controls = [(0x0000, true), (0x0001, true), (0x8000, true), (0x8001, true)];
     let beyond = [0x0002, 0x0003, 0x0080, 0x0100, 0x4000, 0x8002, 0xC001, 0x7FFE, 0xFFFF].map(|bits| (bits, false));
     let fired = [(0, true), (1, true), (2, false), (3, false), (0x0100, false), (0x0101, false), (0x8000, false)];
-    for (call, n) in four_calls().into_iter().flat_map(|call| [(call.clone(), 0), (call, 1)]) {
+    for (call, n) in all_calls().into_iter().flat_map(|call| [(call.clone(), 0), (call, 1)]) {
         let held = |words: [u16; 4], fits: bool| {
             let found = answer(&with_timer(call.clone(), n, words));
             assert_eq!(found != (3, 0), fits, "{call:?}, timer {n}, {words:04X?}: {found:?}");

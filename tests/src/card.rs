@@ -101,7 +101,7 @@ fn act(machine: &mut Machine, command: Command) -> Option<Report> {
     None
 }
 
-fn answered(result: Result<usize, Refusal>) -> u64 {
+pub(crate) fn answered(result: Result<usize, Refusal>) -> u64 {
     match result {
         Ok(number) => number as u64,
         Err(refusal) => refusal.answer(),
@@ -116,7 +116,7 @@ fn report_holds(report: &[u8], runs: usize) -> Result<(), Refusal> {
 }
 
 /// Calls on memory that can only be lent go by a copy.
-fn on_copy(memory: &mut [u8], call: impl FnOnce(&mut Vec<u8>) -> u64) -> u64 {
+pub(crate) fn on_copy(memory: &mut [u8], call: impl FnOnce(&mut Vec<u8>) -> u64) -> u64 {
     let mut copy = memory.to_vec();
     let answer = call(&mut copy);
     memory.copy_from_slice(&copy);

@@ -3,6 +3,7 @@
 
 use crate::card;
 use crate::replay;
+use crate::winder::{self, Settings};
 use std::fmt::Write;
 use std::hint::black_box;
 use std::ops::Range;
@@ -11,8 +12,9 @@ pub type RunCall = fn(&mut [u8], &mut [u8], u16, &mut [u8]) -> u64;
 pub type CardCall = fn(&mut [u8], &mut [u8], &[u8], &mut [u8]) -> u64;
 pub type ViewCall = fn(&[u8], &[u8], &mut [u8]) -> u64;
 pub type FaultCall = fn(&[u8]) -> u64;
+pub type WindCall = fn(&mut [u8], &mut [u8], &Settings, &mut [u8]) -> u64;
 
-/// An emulator by its four calls.
+/// An emulator by its five calls.
 #[derive(Clone, Copy)]
 pub struct Emulator {
     pub name: &'static str,
@@ -20,11 +22,18 @@ pub struct Emulator {
     pub card: CardCall,
     pub view: ViewCall,
     pub fault: FaultCall,
+    pub wind: WindCall,
 }
 
 /// The emulator of this package.
-pub const OWN: Emulator =
-    Emulator { name: "this emulator", run: card::run, card: card::card, view: card::view, fault: card::fault };
+pub const OWN: Emulator = Emulator {
+    name: "this emulator",
+    run: card::run,
+    card: card::card,
+    view: card::view,
+    fault: card::fault,
+    wind: winder::wind,
+};
 
 #[derive(Clone, Debug, PartialEq, Eq)]
 pub enum Call {
@@ -33,6 +42,8 @@ pub enum Call {
     Card(Vec<u8>),
     /// A look at the fault record. It takes the image alone; memory and report are there to stay as they are.
     Fault,
+    /// A simulation of a winder. Its places stand in the report.
+    Wind(Settings),
 }
 
 /// The buffers as they are before the call.
@@ -78,6 +89,7 @@ pub fn go_on(emulator: &Emulator, call: &Call, out: &mut Outcome) {
         Call::View => (emulator.view)(memory, image, report),
         Call::Card(card) => (emulator.card)(memory, image, card, report),
         Call::Fault => (emulator.fault)(image),
+        Call::Wind(settings) => (emulator.wind)(memory, image, settings, report),
     };
     // The compiler must not take for granted that C leaves what it is lent for reading.
     black_box(out);
@@ -178,7 +190,27 @@ fn zero_card(case: &mut Case, fails: &dyn Fn(&Case) -> bool) {
     case.call = Call::Card(card);
 }
 
-/// A smaller case that still fails: fewer steps, a shorter card and report, then zero bytes.
+/// Makes the settings of a simulation smaller, one after the other, while the case fails.
+fn lower_settings(case: &mut Case, fails: &dyn Fn(&Case) -> bool) {
+    let Call::Wind(settings) = case.call else { return };
+    let mut numbers = settings.numbers();
+    // Ticks and steps first: the others then cost less time.
+    for k in [3, 4, 0, 1, 2] {
+        let with = |number: u16| {
+            let mut lower = numbers;
+            lower[k] = number as u32;
+            Case { call: Call::Wind(Settings::of(lower)), ..case.clone() }
+        };
+        let Ok(high) = u16::try_from(numbers[k]) else { continue };
+        let least = smallest(high, |number| fails(&with(number)));
+        if fails(&with(least)) {
+            numbers[k] = least as u32;
+        }
+    }
+    case.call = Call::Wind(Settings::of(numbers));
+}
+
+/// A smaller case that still fails: fewer steps, smaller settings, a shorter card and report, then zero bytes.
 pub fn shrink(case: &Case, fails: &dyn Fn(&Case) -> bool) -> Case {
     let mut case = case.clone();
     if let Call::Run(allowance) = case.call {
@@ -188,11 +220,13 @@ pub fn shrink(case: &Case, fails: &dyn Fn(&Case) -> bool) -> Case {
             case = fewer;
         }
     }
+    lower_settings(&mut case, fails);
     // Twice, since leaving out one part moves the others.
     cut_card(&mut case, fails);
     cut_card(&mut case, fails);
     let shorter = |length: u16| Case { report: case.report[..length as usize].to_vec(), ..case.clone() };
-    let least = shorter(smallest(case.report.len() as u16, |length| fails(&shorter(length))));
+    let most = u16::try_from(case.report.len()).unwrap_or(u16::MAX);
+    let least = shorter(smallest(most, |length| fails(&shorter(length))));
     if fails(&least) {
         case = least;
     }

@@ -1,9 +1,10 @@
-//! The C interface of libtac.a, with the same shape as `crate::card`.
+//! The C interface of libtac.a, with the same shape as `crate::card` and `crate::winder`.
 
 use crate::case::Emulator;
+use crate::winder::Settings;
 
 /// The library.
-pub const LIBRARY: Emulator = Emulator { name: "libtac", run, card, view, fault };
+pub const LIBRARY: Emulator = Emulator { name: "libtac", run, card, view, fault, wind };
 
 mod raw {
     extern "C" {
@@ -38,6 +39,20 @@ mod raw {
         ) -> u64;
 
         pub fn tac_fault(image: *const u8, image_len: usize) -> u64;
+
+        pub fn tac_wind(
+            memory: *mut u8,
+            memory_len: usize,
+            image: *mut u8,
+            image_len: usize,
+            turns: u32,
+            notches: u32,
+            rundown: u32,
+            ticks: u32,
+            steps: u32,
+            places: *mut u8,
+            places_len: usize,
+        ) -> u64;
     }
 }
 
@@ -80,4 +95,22 @@ pub fn view(memory: &[u8], image: &[u8], report: &mut [u8]) -> u64 {
 
 pub fn fault(image: &[u8]) -> u64 {
     unsafe { raw::tac_fault(image.as_ptr(), image.len()) }
+}
+
+pub fn wind(memory: &mut [u8], image: &mut [u8], settings: &Settings, places: &mut [u8]) -> u64 {
+    unsafe {
+        raw::tac_wind(
+            memory.as_mut_ptr(),
+            memory.len(),
+            image.as_mut_ptr(),
+            image.len(),
+            settings.turns,
+            settings.notches,
+            settings.rundown,
+            settings.ticks,
+            settings.steps,
+            places.as_mut_ptr(),
+            places.len(),
+        )
+    }
 }

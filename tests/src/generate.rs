@@ -1,4 +1,5 @@
-//! Random cases: runs, cards, times, runs with looks between them, and pairs of memories for demand 3.
+//! Random cases: runs, cards, times, runs with looks between them, simulations of a winder, and pairs of memories for
+//! demand 3.
 
 use crate::assemble::{put_words, Card};
 use crate::card::{self, LONGEST};
@@ -11,7 +12,9 @@ use crate::program::{self, Ground, Ports, Style};
 use crate::report::REPORT;
 use crate::rng::Rng;
 use crate::sample::{self, edge, instruction_word, value};
+use crate::scenarios::{MOTOR, SCENARIOS};
 use crate::timer::Timer;
+use crate::winder::{Settings, MOST, PLACE};
 
 /// Scratch space for making cases, and the first bytes that are valid.
 pub struct Maker {
@@ -263,6 +266,39 @@ impl Maker {
         }
     }
 
+    /// A simulation of a winder, with settings that are beyond their values at times, too few places, or a bad buffer.
+    pub fn wind_case(&mut self, rng: &mut Rng, case: &mut Case) {
+        match rng.below(20) {
+            0..=9 => MOTOR.case(rng, case),
+            10..=14 => SCENARIOS[rng.below(SCENARIOS.len() as u64) as usize].case(rng, case),
+            kind => {
+                match kind {
+                    15..=16 => self.user_program(rng, 1, Ports::BYTES),
+                    17..=18 => self.untranslated(rng, Ports::BYTES),
+                    _ => self.scene(rng),
+                }
+                let frame = rng.below(255) as u8;
+                handlers(rng, &mut self.machine, frame);
+                self.fill_case(rng, case, 0);
+            }
+        }
+        if rng.chance(6) {
+            case.image[image::CONDITION] = rng.pick(&[HALTED, LOST]);
+        }
+        let mut settings = settings(rng);
+        let good = settings.ticks;
+        if rng.chance(15) {
+            spoil_settings(rng, &mut settings);
+        }
+        let length = places(rng, if settings.ticks <= MOST[3] + 1 { settings.ticks } else { good });
+        case.call = Call::Wind(settings);
+        case.report.resize(length, 0);
+        rng.fill(&mut case.report);
+        if rng.chance(4) {
+            spoil_buffers(rng, case);
+        }
+    }
+
     /// Two memories that differ only in frames without read and execute right.
     pub fn pair(&mut self, rng: &mut Rng, pair: &mut Pair) {
         let nasty = rng.pick(&[0, 0, 0, 1, 2, 30]);
@@ -288,6 +324,57 @@ impl Maker {
                 rng.fill(&mut pair.second[frame * 256..frame * 256 + 256]);
             }
         }
+    }
+}
+
+/// Good settings: mostly small, so that the label is reached, some at the ends of their values.
+fn settings(rng: &mut Rng) -> Settings {
+    let few = rng.between(2, 5) as u32;
+    let turns = rng.pick(&[1, 1, 1, 1, few, few, few, 998, 999]);
+    let notches = rng.pick(&[1, 1, 1, few, few, few, 6, 63, 64]);
+    let rundown = rng.pick(&[1, 1, 2, 3, 4, 5, 6, 9, 20, 63, 64, 64]);
+    let (ticks, steps) = match rng.below(1_000) {
+        0 => (MOST[3] - rng.chance(25) as u32, 1),
+        1 => (rng.between(1, 2) as u32, MOST[4] - rng.chance(25) as u32),
+        2..=49 => (rng.between(60, 1_200) as u32, rng.between(1, 6) as u32),
+        50..=149 => (1, rng.between(1, 60) as u32),
+        150..=249 => (rng.between(1, 60) as u32, 1),
+        250..=299 => (rng.between(1, 8) as u32, rng.between(100, 600) as u32),
+        _ => (rng.between(2, 50) as u32, rng.between(2, 50) as u32),
+    };
+    Settings { turns, notches, rundown, ticks, steps }
+}
+
+/// One or two settings beyond their values: near them, or such that their lower bits are good.
+fn spoil_settings(rng: &mut Rng, settings: &mut Settings) {
+    let mut numbers = settings.numbers();
+    for _ in 0..if rng.chance(80) { 1 } else { 2 } {
+        let k = rng.below(5) as usize;
+        let (good, most) = (numbers[k], MOST[k]);
+        numbers[k] = match rng.below(8) {
+            0..=1 => 0,
+            2..=3 => most + 1,
+            4 => good.wrapping_add(0x1_0000),
+            5 => good | 1 << rng.between(16, 31),
+            6 => rng.pick(&[most + 2, 0x1_0000, 0x8000_0000, 0xFFFF_FFFF]),
+            _ if k == 1 || k == 2 => good.wrapping_add(256),
+            _ => 0xFFFF_FFFF - rng.below(4) as u32,
+        };
+    }
+    *settings = Settings::of(numbers);
+}
+
+/// Bytes of places for so many ticks: just enough mostly, more, or too few.
+fn places(rng: &mut Rng, ticks: u32) -> usize {
+    let exact = PLACE * ticks as usize;
+    match rng.below(40) {
+        0..=21 => exact,
+        22..=27 => exact + 1,
+        28..=35 => exact + rng.between(2, 40) as usize,
+        36 => exact.saturating_sub(1),
+        37 => exact.saturating_sub(PLACE),
+        38 => rng.below(exact as u64 + 1) as usize,
+        _ => 0,
     }
 }
 

@@ -29,6 +29,8 @@ pub mod scenarios;
 pub mod scene;
 pub mod stored;
 pub mod timer;
+pub mod winder;
+pub mod wound;
 
 #[cfg(feature = "library")]
 pub mod ffi;

@@ -62,6 +62,8 @@ impl Ports {
     pub const NONE: Ports = Ports { list: &PORTS, percent: 0 };
     pub const ANY: Ports = Ports { list: &PORTS, percent: 5 };
     pub const TIMERS: Ports = Ports { list: &TIMER_PORTS, percent: 20 };
+    /// The input and the output byte mostly.
+    pub const BYTES: Ports = Ports { list: &[0x18, 0x18, 0x18, 0x18, 0x18, 0x18, 0x18, 0x02, 0x04, 0xA4], percent: 20 };
 
     pub fn allowed(self) -> bool {
         self.percent != 0

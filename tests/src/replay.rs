@@ -3,9 +3,10 @@
 //! The text stands between a line that begins with `case` and the line `end`; other lines around it are passed over:
 //!
 //! ```text
-//! case run 12          or: case view, case fault, case card 0400..., case run 12 looks 34, case pair 300
+//! case run 12          or: case view, case fault, case card 0400..., case run 12 looks 34, case pair 300,
+//!                      case wind 1 2 3 4 5 with turns, notches, rundown, ticks and steps
 //! image 0000...        the image's bytes
-//! report EEEE...       the report's bytes; a pair has none
+//! report EEEE...       the bytes of the report or the places; a pair has none
 //! memory 65536         its length; zero but for the lines below
 //! at 1200 0D051D02     bytes from an address on
 //! other 65536          a pair's second memory, likewise
@@ -21,7 +22,9 @@ use crate::isolation::Pair;
 use crate::looks::Looks;
 use crate::report::REPORT;
 use crate::timer::Timer;
+use crate::winder::Settings;
 use std::fmt::Write;
+use std::str::FromStr;
 
 #[derive(Clone, Debug)]
 pub enum Replay {
@@ -57,6 +60,7 @@ fn text_with(case: &Case, behind: &str) -> String {
         Call::View => "view".to_string(),
         Call::Card(card) => format!("card {}", hex(card)),
         Call::Fault => "fault".to_string(),
+        Call::Wind(settings) => format!("wind {}", settings.numbers().map(|number| number.to_string()).join(" ")),
     };
     let memory = memory_text("memory", &case.memory);
     format!("case {call}{behind}\nimage {}\nreport {}\n{memory}end\n", hex(&case.image), hex(&case.report))
@@ -83,8 +87,15 @@ fn bytes_of(text: &str) -> Result<Vec<u8>, String> {
     }
 }
 
-fn number(text: &str) -> Result<usize, String> {
+/// A number within its type.
+fn number<N: FromStr>(text: &str) -> Result<N, String> {
     text.parse().map_err(|_| format!("no number: {text}"))
+}
+
+/// The five numbers of a simulation.
+fn settings(numbers: &[&str]) -> Result<Settings, String> {
+    let list: Vec<u32> = numbers.iter().map(|text| number(text)).collect::<Result<_, _>>()?;
+    list.try_into().map(Settings::of).map_err(|_| format!("no settings: {}", numbers.join(" ")))
 }
 
 /// Reads the first case in a text.
@@ -111,20 +122,20 @@ pub fn parse(text: &str) -> Result<Replay, String> {
     }
     let mut memories = memories.into_iter();
     let mut memory = || memories.next().ok_or("a memory is missing");
-    let allowance = |text: &str| number(text).map(|n| n as u16);
     let call = match head[1..] {
-        ["run", n] => Call::Run(allowance(n)?),
+        ["run", n] => Call::Run(number(n)?),
         ["view"] => Call::View,
         ["fault"] => Call::Fault,
+        ["wind", ref numbers @ ..] => Call::Wind(settings(numbers)?),
         ["card"] => Call::Card(Vec::new()),
         ["card", bytes] => Call::Card(bytes_of(bytes)?),
         ["run", n, "looks", more] => {
-            let start = Case { memory: memory()?, image, report, call: Call::Run(allowance(n)?) };
-            return Ok(Replay::Looks(Looks { start, more: allowance(more)? }));
+            let start = Case { memory: memory()?, image, report, call: Call::Run(number(n)?) };
+            return Ok(Replay::Looks(Looks { start, more: number(more)? }));
         }
         ["pair", n] => {
             let image = image.try_into().map_err(|_| format!("a pair's image has {} bytes", image::IMAGE))?;
-            return Ok(Replay::Pair(Pair { allowance: allowance(n)?, image, first: memory()?, second: memory()? }));
+            return Ok(Replay::Pair(Pair { allowance: number(n)?, image, first: memory()?, second: memory()? }));
         }
         _ => return Err(format!("no call: {}", head.join(" "))),
     };
@@ -176,8 +187,8 @@ pub fn as_card(case: &Case) -> Option<Vec<u8>> {
             Err(_) if setup.clone().bytes().is_empty() => return Some(bytes.clone()),
             Err(_) => return None,
         },
-        // No command looks.
-        Call::Fault => return None,
+        // No command looks or winds.
+        Call::Fault | Call::Wind(_) => return None,
     };
     let bytes = card.bytes();
     (bytes.len() <= LONGEST && case.report.len() >= REPORT * needed).then_some(bytes)

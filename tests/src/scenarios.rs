@@ -28,6 +28,9 @@ const fn scenario(name: &'static str, ways: &'static [Way], make: fn(&mut Scene)
 /// It has a part of its own in `compare`.
 pub const REGISTER_15: Scenario = scenario("register 15", ALL, following);
 
+/// Only simulations of a winder have it.
+pub const MOTOR: Scenario = scenario("motor", ALL, motor);
+
 pub const SCENARIOS: [Scenario; 26] = [
     scenario("first touches", TRANSLATED, first_touches),
     scenario("marks without rights", TRANSLATED, marks_without_rights),
@@ -836,4 +839,46 @@ fn timers(s: &mut Scene) {
     }
     s.end_turns(&mut c, top);
     s.begin_at(&c);
+}
+
+/// A loop that switches the motor, with entries and other instructions between; it halts at times.
+fn motor(s: &mut Scene) {
+    s.m.flag |= if s.rng.chance(95) { I } else { 0 };
+    s.m.flag |= if s.rng.chance(30) { E } else { 0 };
+    let code = s.page(EXECUTE);
+    let data = s.data(READ | WRITE);
+    s.m.usp = data | 0x80;
+    let mut c = s.code_in(code);
+    for _ in 0..s.rng.between(1, 4) {
+        switch(s, &mut c);
+        s.tame_up_to(&mut c, 2);
+        match s.rng.below(12) {
+            0 => c.add(svc()),
+            1 => c.add(word(s.rng.pick(&[0x0100, 0x5D00, 0x08F0]))),
+            2..=3 => s.access(&mut c, data),
+            _ => {}
+        }
+    }
+    c.add(if s.rng.chance(5) { halt() } else { jump(ALWAYS, At(c.start)) });
+    s.begin_at(&c);
+}
+
+/// The motor switched by the input bit, against it, or without asking.
+fn switch(s: &mut Scene, code: &mut Code) {
+    let rd = s.register();
+    match s.rng.below(6) {
+        // On where the bit is clear.
+        0..=1 => code.add([input(rd, At(0x18)), xor(rd, Short(1)), output(rd, At(0x18))].concat()),
+        // Off where it is set.
+        2 => {
+            code.add([input(rd, At(0x18)), moded(0x30, rd, Short(1))].concat());
+            let behind = code.here().wrapping_add(10);
+            code.add([jump(ZERO, At(behind)), ld(rd, Short(0)), output(rd, At(0x18))].concat());
+        }
+        3 => code.add([input(rd, At(0x18)), output(rd, At(0x18))].concat()),
+        _ => {
+            let value = number(s.rng) | s.rng.below(2) as u16;
+            s.out(code, 0x18, value);
+        }
+    }
 }

@@ -1,5 +1,6 @@
 -- A call: what it answers, and what it leaves of what it was lent, whatever that is. Demand 1: "an answer that ends: a run within its steps, or
--- one of eight numbered refusals with memory, state and report untouched".
+-- one of eight numbered refusals with memory, state and report untouched"; document 02, 5/14: "Demand 1's list and the table take each new
+-- refusal, with P=0 and every lent buffer as it was".
 -- Assumes nothing.
 use mathlib.Core.List.{List}
 use Prim.Native.Nat.{ℕ}

@@ -158,7 +158,9 @@ module _ (m m′ b : List ℕ) (n : ℕ) (rep : List ℕ) (long : length m ≡ l
       (isolated n st m m′ (g .user) (g .alike)))
     where
       sound : (l : List ℕ) → Bytes l → Sound ((runOf n st l) .state)
-      sound l h = run-sound n st l (sound-decoded b (g .imageBytes) (passed (length m) b (length rep) e .machine .image .fields)) h .0
+      sound l h =
+          let start : Sound st = sound-decoded b (g .imageBytes) (passed (length m) b (length rep) e .machine .image .fields) in
+          run-sound (length l) n st l (record { sound = start; bytes = h; sized = refl }) .sound
 
 pub isolated-calls : IsolatedCalls
 isolated-calls m m′ b n rep long = record { refused = refuses m m′ b n rep long; passed = shares m m′ b n rep long }

@@ -40,7 +40,18 @@ fn run_with_report(
     ensures memory { λ _. ⌜ now (memory .exit) ≡ (runOf allowance state (now (memory .entry))) .memory ⌝ }
     ensures report { λ _. ⌜ now (report .exit) ≡ replaced (now (report .entry)) filled reportSize (reportOfRan (runOf allowance state (now (memory .entry)))) ⌝ }
 {
-    let finished = runner::run(state, memory, allowance, table);
+    // No map is kept from run to run, so `origin` is of none.
+    let mut none: [[u16; 256]; 0] = [];
+    let mut origin: [u32; 8] = [0; 8];
+    let finished = runner::run(
+        state,
+        memory,
+        allowance,
+        false,
+        table,
+        &mut none,
+        &mut origin,
+    );
     let last = finished.state;
     let ending = finished.ending;
     let flags = last.flags;

@@ -8,7 +8,7 @@ use mathlib.Core.List.{List}
 use mathlib.Core.Path.{_≡_}
 use Prim.Native.Nat.{ℕ, suc, zero, _+_, _≤_, _<_}
 use Rattle.machine.specs.Answers.{statesOf}
-use Rattle.machine.specs.Run.{Ran, iterate, runOf}
+use Rattle.machine.specs.Run.{Ran, iterate, runOf, stoppedEnding, throughOf}
 use Rattle.machine.specs.Step.{stepOf}
 use Rattle.machine.specs.declared.Condition.{Condition}
 use Rattle.machine.specs.declared.Condition.the-variants as condition
@@ -74,18 +74,32 @@ Ended allowance st m n ending.Spent = BySpending allowance st m n
 
 -- ---- a run
 
-pub record Counted (allowance : ℕ) (st : State) (m : List ℕ) (r : Ran) : Type 0 where
+-- a run's steps are those of the definition
+pub record Stepped (allowance : ℕ) (st : State) (m : List ℕ) (r : Ran) : Type 0 where
   -- "at most its allowance of steps"
   pub within : r .steps ≤ allowance
   -- "reports how many it did": it ends where that many steps lead, in their states
   pub state : r .state ≡ (iterate (r .steps) st m) .state
   pub memory : r .memory ≡ (iterate (r .steps) st m) .memory
   pub states : r .states ≡ statesSum (r .steps) st m
-  -- where a step follows, the machine is running and the step just done was no entry
+  -- where a step follows, the machine is running
   pub running : Runs (r .steps) st m
+
+pub record Counted (allowance : ℕ) (st : State) (m : List ℕ) (r : Ran) : Type 0 where
+  pub stepped : Stepped allowance st m r
+  -- where a step follows, the step just done was no entry
   pub notEntered : Calm (r .steps) st m
   -- and after the last it ends by the ending that it names
   pub ended : Ended allowance st m (r .steps) (r .ending)
+
+-- ---- a run that goes on through kernel entries. Document 02, 5/14: "a set number of steps, carrying on through kernel entries, until halted or
+-- lost"
+
+pub record CountedThrough (allowance : ℕ) (st : State) (m : List ℕ) (r : Ran) : Type 0 where
+  pub stepped : Stepped allowance st m r
+  -- it is halted or lost, as its ending says, or its allowance is spent
+  pub ending : r .ending ≡ stoppedEnding (conditionAfter (r .steps) st m)
+  pub spent : conditionAfter (r .steps) st m ≡ condition.Running → r .steps ≡ allowance
 
 -- ---- the theorems
 
@@ -96,3 +110,11 @@ RunCounted = (allowance : ℕ) (st : State) (m : List ℕ) → Counted allowance
 -- `only`: and nothing else is
 abbrev pub OnlyRun : Type 0
 OnlyRun = (allowance : ℕ) (st : State) (m : List ℕ) (r r′ : Ran) → Counted allowance st m r → Counted allowance st m r′ → r ≡ r′
+
+-- `through-counted`: what `throughOf` gives is counted
+abbrev pub ThroughCounted : Type 0
+ThroughCounted = (allowance : ℕ) (st : State) (m : List ℕ) → CountedThrough allowance st m (throughOf allowance st m)
+
+-- `through-only`: and nothing else is
+abbrev pub OnlyThrough : Type 0
+OnlyThrough = (allowance : ℕ) (st : State) (m : List ℕ) (r r′ : Ran) → CountedThrough allowance st m r → CountedThrough allowance st m r′ → r ≡ r′

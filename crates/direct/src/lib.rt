@@ -24,7 +24,18 @@ fn run_valid(memory: &mut [u8], image: &mut [u8], allowance: u16, report: &mut [
 {
     let state = image::read_image(image);
     let table = decode::entries();
-    let finished = runner::run(state, memory, allowance, &table);
+    // No map is kept from run to run, so `origin` is of none.
+    let mut none: [[u16; 256]; 0] = [];
+    let mut origin: [u32; 8] = [0; 8];
+    let finished = runner::run(
+        state,
+        memory,
+        allowance,
+        false,
+        &table,
+        &mut none,
+        &mut origin,
+    );
     let last = finished.state;
     let ending = finished.ending;
     let flags = last.flags;

@@ -101,6 +101,25 @@ module _ {size : ℕ} {bytes : List ℕ → List ℕ} (laid : Laid size bytes) w
   laid-long (x ∷ xs) =
       ap length (laid .more x xs) ∙ length-append (laid .one x) (bytes xs) ∙ omega (arith, laid .long x, laid-long xs)
 
+-- a word out of the bytes of words, whatever stands behind them
+pub word-at : (xs r : List ℕ) (k : ℕ) → k < length xs → getD xs k 0 < 65536 → wordFrom (wordBytes xs ++ r) (2 * k) ≡ getD xs k 0
+unfolding wordBytes
+word-at [] r k h small = absurd (omega arith)
+word-at (x ∷ xs) r zero h small = omega arith
+word-at (x ∷ xs) r (suc k) h small =
+    let upper : 2 * suc k ≡ suc (suc (2 * k)) = omega arith in
+    let lower : suc (suc (2 * k)) + 1 ≡ suc (suc (2 * k + 1)) = omega arith in
+    rw (upper, lower) (word-at xs r k (omega arith) small)
+
+-- words stored behind others
+pub words-behind :
+    (old xs ys : List ℕ) (at : ℕ)
+    → sets (sets old at (wordBytes xs)) (at + 2 * length xs) (wordBytes ys) ≡ sets old at (wordBytes (xs ++ ys))
+words-behind old xs ys at =
+    ap (λ (n : ℕ). sets (sets old at (wordBytes xs)) (at + n) (wordBytes ys)) (sym (laid-long words-laid xs))
+    ∙ sym (sets-append (wordBytes xs) (wordBytes ys) old at)
+    ∙ ap (sets old at) (sym (laid-append words-laid xs ys))
+
 -- `k` of the elements `xs` have been stored from `at` on
 pub record Stored (bytes : List ℕ → List ℕ) (old : List ℕ) (at : ℕ) (xs new : List ℕ) (k : ℕ) : Type 0 where
   pub within : k ≤ length xs

@@ -19,8 +19,8 @@ use Rattle.machine.specs.declared.State.{State}
 use Rattle.roundtrip.specs.Good.{good-encodes, image-long}
 use Rattle.roundtrip.specs.Ranged.{image-bytes}
 use Rattle.roundtrip.specs.Runs.{sound-decoded}
-use Rattle.roundtrip.specs.Statement.{Bytes}
-use Rattle.joined.specs.Keeps.{Kept, execute-good}
+use Rattle.roundtrip.specs.Statement.{Bytes, SoundMachine}
+use Rattle.joined.specs.Keeps.{execute-good}
 use Rattle.joined.specs.Statement.{CardLeaves, Left}
 
 -- ---- a call that passed them
@@ -35,7 +35,7 @@ module _ (m b card rep : List ℕ) (good : cardValid (length m) b card (length r
   call-is = good-does (buffers m b rep) _ _ good
 
   module _ (memory : Bytes m) (image : Bytes b) (bytes : Bytes card) where
-    pub call-keeps : Kept (length m) ((cardExecuted m b card) .state) ((cardExecuted m b card) .memory)
+    pub call-keeps : SoundMachine (length m) ((cardExecuted m b card) .state) ((cardExecuted m b card) .memory)
     call-keeps =
         let fields : goodImage b ≡ true = passed (length m) b card (length rep) good .machine .image .fields in
         execute-good card bytes (stateFrom b) m (sound-decoded b image fields) memory
@@ -43,7 +43,7 @@ module _ (m b card rep : List ℕ) (good : cardValid (length m) b card (length r
     leaves : Left m (cardCall m b card rep)
     leaves =
         let st : State = (cardExecuted m b card) .state in
-        let k : Kept (length m) st ((cardExecuted m b card) .memory) = call-keeps in
+        let k : SoundMachine (length m) st ((cardExecuted m b card) .memory) = call-keeps in
         rw call-is
         (record {
           memoryBytes = k .bytes;
@@ -52,10 +52,6 @@ module _ (m b card rep : List ℕ) (good : cardValid (length m) b card (length r
           imageLong = image-long st (k .sound .good);
           imageGood = good-encodes st (k .sound .good);
         })
-
-    -- the image that a card leaves is good
-    pub card-image : goodImage ((cardCall m b card rep) .lent .image) ≡ true
-    card-image = leaves .imageGood
 
 -- what a card leaves can be handed to another call
 pub card-leaves : CardLeaves

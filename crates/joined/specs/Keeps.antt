@@ -18,8 +18,8 @@ use Rattle.machine.specs.Flag.{withFlag}
 use Rattle.machine.specs.State.{withMmu, withTlb}
 use Rattle.machine.specs.declared.State.{State}
 use Rattle.roundtrip.specs.Each.{each-set}
-use Rattle.roundtrip.specs.Runs.{run-memory-long, run-sound}
-use Rattle.roundtrip.specs.Statement.{Bytes, Each, EntryFits, GoodState, Ranged, Sound, Word, Zeros}
+use Rattle.roundtrip.specs.Runs.{run-sound}
+use Rattle.roundtrip.specs.Statement.{Bytes, Each, EntryFits, GoodState, Ranged, Sound, SoundMachine, Word, Zeros}
 use Rattle.roundtrip.specs.Timers.{GoodTimer, TimerFits}
 use Rattle.roundtrip.specs.Statement as range
 use Rattle.timer.specs.Laws.{lines-small, tick-by}
@@ -28,12 +28,6 @@ use Rattle.timer.specs.declared.Timer.{Timer}
 use Rattle.word.specs.Cases.{either}
 use Rattle.word.specs.Word.{wrap}
 use Rattle.joined.specs.Operands.{AllFit, Fits, card-fits}
-
--- a sound state beside a memory of bytes of this length
-pub record Kept (long : ℕ) (st : State) (m : List ℕ) : Type 0 where
-  pub sound : Sound st
-  pub bytes : Bytes m
-  pub sized : length m ≡ long
 
 -- ---- a command
 
@@ -109,25 +103,23 @@ time-sound (suc n) st s = time-sound n (afterMillisecond st) (millisecond-sound 
 module _ (long : ℕ) where
   -- what some commands leave
   abbrev Leaves : Effect → Type 0
-  Leaves p = Kept long (p .state) (p .memory)
+  Leaves p = SoundMachine long (p .state) (p .memory)
 
-  act-keeps : (x : Command) → Fits x → (st : State) (m : List ℕ) → Kept long st m → Leaves (effectOf x st m)
+  act-keeps : (x : Command) → Fits x → (st : State) (m : List ℕ) → SoundMachine long st m → Leaves (effectOf x st m)
   unfolding effectOf
   act-keeps (Byte a v) f st m k =
       record { sound = k .sound; bytes = each-set (λ (w : ℕ). w < 256) m a v (k .bytes) f; sized = length-set m a v ∙ k .sized }
   act-keeps (Register n v) f st m k = record { sound = register-sound st (k .sound) n v f; bytes = k .bytes; sized = k .sized }
   act-keeps (Lines lines v) f st m k =
       record { sound = lines-sound st (k .sound) lines v (f .0) (f .1); bytes = k .bytes; sized = k .sized }
-  act-keeps (Run n) f st m k =
-      let r = run-sound n st m (k .sound) (k .bytes) in
-      record { sound = r .0; bytes = r .1; sized = run-memory-long n st m ∙ k .sized }
+  act-keeps (Run n) f st m k = run-sound long n st m k
   act-keeps (Entry e bits) f st m k =
       record { sound = entry-sound st (k .sound) e bits (f .0) (f .1); bytes = k .bytes; sized = k .sized }
   act-keeps (Mmu on) f st m k = record { sound = mmu-sound st (k .sound) on; bytes = k .bytes; sized = k .sized }
   act-keeps (Flag w) f st m k = record { sound = flag-sound st (k .sound) w; bytes = k .bytes; sized = k .sized }
   act-keeps (Time ms) f st m k = record { sound = time-sound ms st (k .sound); bytes = k .bytes; sized = k .sized }
 
-  execute-keeps : (xs : List Command) → AllFit xs → (st : State) (m : List ℕ) → Kept long st m → Leaves (executeOf xs st m)
+  execute-keeps : (xs : List Command) → AllFit xs → (st : State) (m : List ℕ) → SoundMachine long st m → Leaves (executeOf xs st m)
   unfolding executeOf
   execute-keeps [] f st m k = k
   execute-keeps (x ∷ xs) f st m k =
@@ -137,7 +129,7 @@ module _ (long : ℕ) where
 -- a card's commands, be the card good or not
 pub execute-good :
     (card : List ℕ) → Bytes card → (st : State) (m : List ℕ) → Sound st → Bytes m
-    → Kept (length m) ((executeOf ((readingOf card) .commands) st m) .state) ((executeOf ((readingOf card) .commands) st m) .memory)
+    → SoundMachine (length m) ((executeOf ((readingOf card) .commands) st m) .state) ((executeOf ((readingOf card) .commands) st m) .memory)
 execute-good card small st m s b =
     execute-keeps (length m) ((readingOf card) .commands) (card-fits card small) st m
     (record { sound = s; bytes = b; sized = refl })

@@ -17,8 +17,8 @@ use Rattle.image.specs.Decode.{stateFrom}
 use Rattle.refusal.specs.declared.Validity.the-variants.{Good}
 use Rattle.report.specs.Layout.{reportSize}
 use Rattle.roundtrip.specs.Ranged.{decoded}
+use Rattle.roundtrip.specs.Statement.{SoundMachine}
 use Rattle.joined.specs.Calls.{call-is, call-keeps, card-leaves, cardExecuted}
-use Rattle.joined.specs.Keeps.{Kept}
 use Rattle.joined.specs.Executing.{onward, execute-both, runs-both}
 use Rattle.joined.specs.Reading.{commands-joined, joined-good, second-good}
 use Rattle.joined.specs.Statement.{Apart, AsOne, Given, JointGood, Left, TwoAsOne, firstCall, imageLeft, jointCall, memoryLeft, reportLeft, secondCall}
@@ -95,7 +95,7 @@ module _ (m b a c rep : List ℕ) where
     -- the state between the cards comes back out of its image
     between : stateFrom (imageLeft m b a c rep) ≡ one .state
     between =
-        let k : Kept (length m) (one .state) (one .memory) =
+        let k : SoundMachine (length m) (one .state) (one .memory) =
         call-keeps m b a rep first-passes (given .memoryBytes) (given .imageBytes) (given .cardBytes) in
         ap (λ (x : Call). stateFrom (x .lent .image)) (first-is first-passes) ∙ decoded (one .state) (k .sound .good) (k .sound .ranged)
 

@@ -54,7 +54,7 @@ module _ (m b : List ℕ) (n : ℕ) (rep : List ℕ) (g : Given m b rep) where
 
     did : done .steps ≡ steps
     unfolding reportOf wordBytes
-    did = omega (arith, rw (call-is m b n rep g) at (t .counted), counted n (stateFrom b) m .within)
+    did = omega (arith, rw (call-is m b n rep g) at (t .counted), counted n (stateFrom b) m .stepped .within)
 
     stopped : Stopped steps end (stateFrom b) m (done .state .fault)
     stopped = stopped-as steps end _ _ (stateFrom b) m _ (rw (ended, did) at (run-stopped n (stateFrom b) m))

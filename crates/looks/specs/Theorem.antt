@@ -35,9 +35,9 @@ use Rattle.report.specs.Layout.{reportSize}
 use Rattle.report.specs.Report.{flagShown, pcShown, reportOf}
 use Rattle.roundtrip.specs.Good.{good-encodes, image-long}
 use Rattle.roundtrip.specs.Ranged.{decoded, image-bytes, ranged-decoded}
-use Rattle.roundtrip.specs.Runs.{run-memory-long, run-sound, sound-decoded}
+use Rattle.roundtrip.specs.Runs.{run-sound, sound-decoded}
 use Rattle.roundtrip.specs.Images.{encoded}
-use Rattle.roundtrip.specs.Statement.{Byte, Bytes, Sound, Word}
+use Rattle.roundtrip.specs.Statement.{Byte, Sound, SoundMachine, Word}
 use Rattle.looks.specs.Statement.{AsOne, CallShows, CallsBetween, CallsWithin, Given, IsolatedLooks, LookAfter, LookImage, LookKeeps, LookParts, Parts, lookedCalls, recordIn}
 
 -- ---- one look
@@ -79,11 +79,11 @@ module _ (m b : List ℕ) (n : ℕ) (rep : List ℕ) (g : Given m b rep) where
   pub start : Sound (stateFrom b)
   start = sound-decoded b (g .imageBytes) (tested .machine .image .fields)
 
-  left : Sound (done .state) × Bytes (done .memory)
-  left = run-sound n (stateFrom b) m start (g .memoryBytes)
+  left : SoundMachine (length m) (done .state) (done .memory)
+  left = run-sound (length m) n (stateFrom b) m (record { sound = start; bytes = g .memoryBytes; sized = refl })
 
   left-good : ImageGood (imageOf (done .state))
-  left-good = record { size = image-long (done .state) (left .0 .good); fields = good-encodes (done .state) (left .0 .good) }
+  left-good = record { size = image-long (done .state) (left .sound .good); fields = good-encodes (done .state) (left .sound .good) }
 
   left-passes : imageValid (imageOf (done .state)) ≡ Good
   left-passes = image-passes _ left-good
@@ -92,16 +92,16 @@ module _ (m b : List ℕ) (n : ℕ) (rep : List ℕ) (g : Given m b rep) where
   left-given : (rep′ : List ℕ) → reportSize ≤ length rep′ → Given (done .memory) (imageOf (done .state)) rep′
   left-given rep′ room =
       let machine : MachineGood (length (done .memory)) (imageOf (done .state)) =
-      record { memory = run-memory-long n (stateFrom b) m ∙ tested .machine .memory; image = left-good }
+      record { memory = left .sized ∙ tested .machine .memory; image = left-good }
       in
       record {
-        memoryBytes = left .1;
-        imageBytes = image-bytes (done .state) (left .0 .good) (left .0 .ranged);
+        memoryBytes = left .bytes;
+        imageBytes = image-bytes (done .state) (left .sound .good) (left .sound .ranged);
         passed = passes _ _ _ (record { machine = machine; room = room });
       }
 
   back : stateFrom (imageOf (done .state)) ≡ done .state
-  back = decoded (done .state) (left .0 .good) (left .0 .ranged)
+  back = decoded (done .state) (left .sound .good) (left .sound .ranged)
 
   look-left : (faultCall ((runCall m b n rep) .lent .image)) .answer ≡ Done (faultWord (done .state .fault))
   unfolding faultCall
@@ -110,7 +110,7 @@ module _ (m b : List ℕ) (n : ℕ) (rep : List ℕ) (g : Given m b rep) where
   -- its answer has the parts of the record
   pub left-parts : Parts (done .state .fault) ((faultCall ((runCall m b n rep) .lent .image)) .answer)
   left-parts =
-      let s : Sound (done .state) = left .0 in
+      let s : Sound (done .state) = left .sound in
       let cause : Byte (done .state .fault .cause) = omega (arith, s .good .causes) in
       rw look-left (parts-of (done .state .fault) cause (s .ranged .page) (s .ranged .refused))
 

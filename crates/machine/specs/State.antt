@@ -68,5 +68,8 @@ withTimers s x = stateWith (s .regs) (s .ssp) (s .usp) (s .pc) (s .flags) (s .pe
 abbrev pub withArithmetic : State → Bool → Bool → Bool → Bool → State
 withArithmetic st v c s z = withFlags st (flagsWith (st .flags) v c s z)
 
+abbrev pub withInput : State → ℕ → State
+withInput st byte = withPorts st (record { input = byte; output = st .ports .output })
+
 abbrev pub withOutput : State → ℕ → State
 withOutput st byte = withPorts st (record { input = st .ports .input; output = byte })

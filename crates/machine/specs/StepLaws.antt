@@ -17,7 +17,7 @@ use Rattle.machine.specs.Execute.{bodyOf, withResult}
 use Rattle.machine.specs.Flag.{withFlag}
 use Rattle.machine.specs.Ports.{afterIn, afterOut, portValue}
 use Rattle.machine.specs.Register.{spOf, withReg, withSp}
-use Rattle.machine.specs.Run.{Ran, runFrom, runOf, unlessEntered, unlessStopped}
+use Rattle.machine.specs.Run.{Ran, runFrom, runOf, throughFrom, throughOf, unlessEntered, unlessStopped}
 use Rattle.machine.specs.State.{withCondition, withPending, withStack}
 use Rattle.machine.specs.Step.{stepOf}
 use Rattle.machine.specs.declared.Condition.{Condition}
@@ -70,7 +70,7 @@ enter-by Claim st pending number saved m l e = either Claim (eqb (st .ssp % 2) 1
 
 -- ---- a run
 
--- what each step keeps of the state and of the memory, a run keeps
+-- what each step keeps of the state and of the memory, a run keeps, ending at a kernel entry or going on through them
 module _
     (P : State → List ℕ → Type 0) (kept : (st : State) (m : List ℕ) → P st m → P ((stepOf st m) .state) ((stepOf st m) .memory)) where
   abbrev End : Ran → Type 0
@@ -103,3 +103,15 @@ module _
   pub run-keeps : (n : ℕ) (st : State) (m : List ℕ) → P st m → P ((runOf n st m) .state) ((runOf n st m) .memory)
   unfolding runOf
   run-keeps n st m g = from-keeps n st m 0 0 g
+
+  through-from-keeps : (left : ℕ) (st : State) (m : List ℕ) (n t : ℕ) → P st m → End (throughFrom left st m n t)
+  unfolding throughFrom
+  through-from-keeps zero st m n t g = stopped-keeps st m n t _ g g (st .condition)
+  through-from-keeps (suc left) st m n t g =
+      let o : Outcome = stepOf st m in
+      stopped-keeps st m n t _ g
+      (through-from-keeps left (o .state) (o .memory) (n + 1) (t + statesOf (o .event)) (kept st m g)) (st .condition)
+
+  pub through-keeps : (n : ℕ) (st : State) (m : List ℕ) → P st m → P ((throughOf n st m) .state) ((throughOf n st m) .memory)
+  unfolding throughOf
+  through-keeps n st m g = through-from-keeps n st m 0 0 g

@@ -1,15 +1,13 @@
--- Laws of runs: what steps and states done before add to the counts; and runs that go on through kernel entries, by the run to the next entry
--- and by their steps.
+-- Laws of runs: what steps and states done before add to the counts; and runs that go on through kernel entries, by the run to the next entry.
 -- Assumes nothing.
 use mathlib.Core.List.{List}
 use mathlib.Core.Path.{_≡_, refl}
 use Prim.Native.Nat.{ℕ, suc, zero, _+_, _-_}
 use native.Mathlib.Nat.{add-assoc, add-zero}
-use native.Mathlib.Numerals.{one-add}
 use native.Mathlib.Omega.{arith}
 use Rattle.machine.specs.Answers.{statesOf}
 use Rattle.machine.specs.Enter.{Outcome}
-use Rattle.machine.specs.Run.{Place, Ran, iterate, ran, runFrom, runOf, throughFrom, throughOf, unlessEntered, unlessStopped}
+use Rattle.machine.specs.Run.{Ran, ran, runFrom, runOf, throughFrom, throughOf, unlessEntered, unlessStopped}
 use Rattle.machine.specs.Step.{stepOf}
 use Rattle.machine.specs.declared.Condition.{Condition}
 use Rattle.machine.specs.declared.Condition.the-variants as condition
@@ -113,27 +111,3 @@ through-run (suc left) st m n t =
     stopped-on (st .condition) st m n t (n + suc left) _ _
     (rw d
     (entered-on (o .event) left (o .state) (o .memory) (n + 1) t′ _ (through-run left (o .state) (o .memory) (n + 1) t′)))
-
--- ---- by the steps
-
--- the state and the memory of a run's end
-abbrev pub placeOf : Ran → Place
-placeOf r = record { state = r .state; memory = r .memory }
-
--- it is where its steps lead
-abbrev pub Led : State → List ℕ → Ran → Type 0
-Led st m r = placeOf r ≡ iterate (r .steps) st m
-
-stopped-led : (c : Condition) (st : State) (m : List ℕ) (r : Ran) → Led st m r → Led st m (unlessStopped c st m 0 0 r)
-unfolding iterate
-stopped-led condition.Running st m r e = e
-stopped-led condition.Halted st m r e = refl
-stopped-led condition.Lost st m r e = refl
-
-pub through-iterates : (allowance : ℕ) (st : State) (m : List ℕ) → Led st m (throughOf allowance st m)
-unfolding throughOf throughFrom iterate
-through-iterates zero st m = stopped-led (st .condition) st m (ran st m 0 0 ending.Spent) refl
-through-iterates (suc left) st m =
-    let o : Outcome = stepOf st m in
-    stopped-led (st .condition) st m _
-    (rw (through-later left (o .state) (o .memory) 1 (0 + statesOf (o .event)), one-add) (through-iterates left (o .state) (o .memory)))

@@ -155,12 +155,12 @@ module _ (n : ℕ) (st : State) (m : List ℕ) where
     at = (iterate last st m) .state
 
     last-state : r .state ≡ (stepOf at ((iterate last st m) .memory)) .state
-    last-state = counted n st m .state ∙ ap (λ (k : ℕ). (iterate k st m) .state) count ∙ iterate-more last st m
+    last-state = counted n st m .stepped .state ∙ ap (λ (k : ℕ). (iterate k st m) .state) count ∙ iterate-more last st m
 
     last-condition : conditionAfter (suc last) st m ≡ conditionBy (eventAt last st m) condition.Running
     last-condition =
         ap (λ (s : State). s .condition) (iterate-more last st m) ∙ step-does at ((iterate last st m) .memory) .condition
-        ∙ ap (conditionBy (eventAt last st m)) (counted n st m .running last (omega arith))
+        ∙ ap (conditionBy (eventAt last st m)) (counted n st m .stepped .running last (omega arith))
 
     by-event : (x : Ending) → Ended n st m (suc last) x → x ≡ endingBy (eventAt last st m)
     by-event ending.Spent h =
@@ -179,7 +179,7 @@ module _ (n : ℕ) (st : State) (m : List ℕ) where
 
   stopped : (k : ℕ) → r .steps ≡ k → Stopped k (r .ending) st m (r .state .fault)
   unfolding iterate
-  stopped zero e = ap (λ (s : State). s .fault) (counted n st m .state) ∙ rw e
+  stopped zero e = ap (λ (s : State). s .fault) (counted n st m .stepped .state) ∙ rw e
   stopped (suc last) e = rw (ending-is last e, last-state last e) (step-stops (at last e) ((iterate last st m) .memory))
 
 pub run-stopped : RunStopped

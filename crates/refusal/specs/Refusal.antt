@@ -1,8 +1,8 @@
--- Refusals. Document 01, the table "Cause, tested in this order".
+-- Refusals. Document 01, the table "Cause, tested in this order"; document 02, 5/14: 9.
 -- Assumes nothing.
 use Prim.Native.Nat.{ℕ}
 use Rattle.refusal.specs.declared.Cause.{Cause}
-use Rattle.refusal.specs.declared.Cause.the-variants.{CardLength, CommandBeyond, CommandShort, CommandUnknown, ImageField, ImageLength, MemoryLength, ReportLength}
+use Rattle.refusal.specs.declared.Cause.the-variants.{CardLength, CommandBeyond, CommandShort, CommandUnknown, ImageField, ImageLength, MemoryLength, ReportLength, WinderSetting}
 use Rattle.refusal.specs.declared.Validity.{Validity}
 use Rattle.refusal.specs.declared.Validity.the-variants.{Good, Refused}
 
@@ -16,6 +16,7 @@ causeNumber CommandUnknown = 5
 causeNumber CommandShort = 6
 causeNumber CommandBeyond = 7
 causeNumber ReportLength = 8
+causeNumber WinderSetting = 9
 
 -- "Returned": "P=0", or "P, its first byte's position from 0"
 abbrev pub refused : Cause → ℕ → Validity

@@ -21,6 +21,8 @@ pub enum Cause {
     CommandBeyond,
     // The report is too short.
     ReportLength,
+    // A setting of the winder is beyond its values, or there are fewer places than ticks.
+    WinderSetting,
 }
 
 // A cause, and its place: the position of the first bad command, or 0.

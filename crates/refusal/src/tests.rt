@@ -18,6 +18,7 @@ pub fn number_of(cause: Cause) -> u8
         Cause::CommandShort => 6,
         Cause::CommandBeyond => 7,
         Cause::ReportLength => 8,
+        Cause::WinderSetting => 9,
     }
 }
 

@@ -9,7 +9,7 @@ use Rattle.image.specs.Decode.{stateFrom}
 use Rattle.image.specs.Image.{imageOf}
 use Rattle.layout.specs.Layout.{imageSize}
 use Rattle.layout.specs.Valid.{goodImage}
-use Rattle.machine.specs.Run.{runOf}
+use Rattle.machine.specs.Run.{runOf, throughOf}
 use Rattle.machine.specs.Step.{stepOf}
 use Rattle.machine.specs.declared.Event.{Event}
 use Rattle.machine.specs.declared.Event.the-variants as event
@@ -65,6 +65,12 @@ pub record Sound (st : State) : Type 0 where
   pub good : GoodState st
   pub ranged : Ranged st
 
+-- A sound state beside a memory of bytes of this length.
+pub record SoundMachine (long : ℕ) (st : State) (m : List ℕ) : Type 0 where
+  pub sound : Sound st
+  pub bytes : Bytes m
+  pub sized : length m ≡ long
+
 -- what a step tells of an entry of the kernel: the number, PC and FLAG
 abbrev pub EventFits : Event → Type 0
 EventFits (event.Executed cost) = Unit {0}
@@ -95,9 +101,15 @@ abbrev pub RunRanged : Type 0
 RunRanged =
     (n : ℕ) (st : State) (m : List ℕ) → GoodState st → Ranged st → Bytes m → Ranged ((runOf n st m) .state) × Bytes ((runOf n st m) .memory)
 
--- `run-sound`: so from a sound state to a sound one
+-- `run-sound`, `through-sound`: a run, also one that goes on through kernel entries, leads from a sound machine to a sound one of that length
 abbrev pub RunSound : Type 0
-RunSound = (n : ℕ) (st : State) (m : List ℕ) → Sound st → Bytes m → Sound ((runOf n st m) .state) × Bytes ((runOf n st m) .memory)
+RunSound =
+    (long n : ℕ) (st : State) (m : List ℕ) → SoundMachine long st m → SoundMachine long ((runOf n st m) .state) ((runOf n st m) .memory)
+
+abbrev pub ThroughSound : Type 0
+ThroughSound =
+    (long n : ℕ) (st : State) (m : List ℕ) → SoundMachine long st m
+    → SoundMachine long ((throughOf n st m) .state) ((throughOf n st m) .memory)
 
 -- `run-image`: from the state of a good image it leads to a state whose image is good
 abbrev pub RunImage : Type 0

@@ -7,8 +7,6 @@ mod runs;
 use hot::Hot;
 use machine::State;
 pub use runs::run;
-pub use runs::run_through;
-pub use runs::run_through_kept;
 
 // The end of the loop: how many instructions, and their states.
 pub struct Stretch {

@@ -12,11 +12,11 @@ use machine::Event;
 use machine::Finished;
 use machine::State;
 use machine::states_of;
-use pages::kept_maps;
 
-// A run of at most `allowance` steps, which goes on through kernel entries or ends there. `maps` are maps of the pages that are kept, `origin`
-// the TLB that they are of; where there are none, a map is made wherever plain instructions begin.
-fn by_turns(
+// A run of at most `allowance` steps, which goes on through kernel entries or ends there. `maps` are maps of the pages, kept from run to run and
+// made by `kept_maps` first, and `origin` is the TLB that they are of. Where there are none, a map is made wherever plain instructions begin: places
+// for them would cost a short run more than they save it.
+pub fn run(
     start: State,
     mem: &mut [u8],
     allowance: u16,
@@ -61,44 +61,4 @@ fn by_turns(
             }
         }
     }
-}
-
-// A run of at most `allowance` steps.
-pub fn run(start: State, mem: &mut [u8], allowance: u16, table: &Table) -> Finished
-    requires { ⌜ (length (now mem) ≡ 65536) × (now table ≡ tableOf) ⌝ }
-    ensures answer { λ r. ⌜ r ≡ def.finished (def.runOf allowance start (now (mem .entry))) ⌝ }
-    ensures memory { λ r. ⌜ now (mem .exit) ≡ (def.runOf allowance start (now (mem .entry))) .memory ⌝ }
-{
-    // No maps: places for them would cost a short run more than they save it.
-    let mut none: [[u16; 256]; 0] = [];
-    let mut origin = start.tlb;
-    by_turns(start, mem, allowance, false, table, &mut none, &mut origin)
-}
-
-// A run that goes on through kernel entries, to a halt or a loss.
-pub fn run_through(start: State, mem: &mut [u8], allowance: u16, table: &Table) -> Finished
-    requires { ⌜ (length (now mem) ≡ 65536) × (now table ≡ tableOf) ⌝ }
-    ensures answer { λ r. ⌜ r ≡ def.finished (def.throughOf allowance start (now (mem .entry))) ⌝ }
-    ensures memory { λ r. ⌜ now (mem .exit) ≡ (def.throughOf allowance start (now (mem .entry))) .memory ⌝ }
-{
-    let mut origin = start.tlb;
-    let mut maps = kept_maps(origin);
-    by_turns(start, mem, allowance, true, table, &mut maps, &mut origin)
-}
-
-// The same with maps that are kept from one run to the next, `kept_maps` having made the first: for short runs one after the other.
-pub fn run_through_kept(
-    start: State,
-    mem: &mut [u8],
-    allowance: u16,
-    table: &Table,
-    maps: &mut [[u16; 256]],
-    origin: &mut [u32; 8],
-) -> Finished
-    requires { ⌜ (length (now mem) ≡ 65536) × (now table ≡ tableOf) × Kept (now origin) (now maps) ⌝ }
-    ensures answer { λ r. ⌜ r ≡ def.finished (def.throughOf allowance start (now (mem .entry))) ⌝ }
-    ensures memory { λ r. ⌜ now (mem .exit) ≡ (def.throughOf allowance start (now (mem .entry))) .memory ⌝ }
-    ensures kept { λ r. ⌜ Kept (now (origin .exit)) (now (maps .exit)) ⌝ }
-{
-    by_turns(start, mem, allowance, true, table, maps, origin)
 }

@@ -5,7 +5,7 @@ use Prim.Native.Nat.{suc, zero, ℕ}
 use lib.Bits.{bitOr}
 use lib.Dec.{eqb, ltb}
 use lib.ListN.{set}
-use Rattle.machine.specs.State.{withPc, withPending, withPorts, withRegs, withStack, withTimers}
+use Rattle.machine.specs.State.{withInput, withPc, withPending, withRegs, withStack, withTimers}
 use Rattle.machine.specs.declared.State.{State}
 use Rattle.timer.specs.Time.{linesRaised, timersTicked}
 
@@ -19,8 +19,7 @@ withRegister st n v =
 
 -- "03 lines(2), input byte(1), lines added to pending": a line that is pending already stays so
 abbrev pub withLines : State → ℕ → ℕ → State
-withLines st lines byte =
-    withPorts (withPending st (bitOr (st .pending) lines)) (record { input = byte; output = st .ports .output })
+withLines st lines byte = withInput (withPending st (bitOr (st .pending) lines)) byte
 
 -- a millisecond of both timers: "line 0 or 1 is raised"
 abbrev pub afterMillisecond : State → State

@@ -1,12 +1,14 @@
-// The interface for C: runs, cards, views and looks on buffers that the caller lends.
+// The interface for C: runs, cards, views, looks and simulations of a winder, on buffers that the caller lends.
 ghost use mathlib.Core.Path.{_≡_};
 ghost use Rattle.call.specs.Call.{buffers, called};
 ghost use Rattle.card.specs.Call.{cardCall};
 ghost use Rattle.direct.specs.Call.{runCall};
 ghost use Rattle.look.specs.Call.{faultCall};
 ghost use Rattle.view.specs.Call.{viewCall};
+ghost use Rattle.winder.specs.Call.{lent, settings, windCall};
 ghost use Rattle.tac.specs.Packed as def;
 use call::Answer;
+use winder::Settings;
 
 // An answer in one number: a refusal's number × 2^32 + P, or what the call gives.
 fn pack(answer: Answer) -> u64
@@ -62,4 +64,28 @@ pub extern "C" fn tac_fault(image: &[u8]) -> u64
     ensures { λ r. ⌜ called r (now (image .exit)) ≡ def.packedCall (faultCall (now (image .entry))) ⌝ }
 {
     pack(look::look(image))
+}
+
+// A simulation of the winder.
+#[no_mangle]
+pub extern "C" fn tac_wind(
+    memory: &mut [u8],
+    image: &mut [u8],
+    turns: u32,
+    notches: u32,
+    rundown: u32,
+    ticks: u32,
+    steps: u32,
+    places: &mut [u8],
+) -> u64
+    ensures { λ r. ⌜ called r (lent (now (memory .exit)) (now (image .exit)) (now (places .exit))) ≡ def.packedCall (windCall (now (memory .entry)) (now (image .entry)) (settings turns notches rundown ticks steps) (now (places .entry))) ⌝ }
+{
+    let tried = Settings {
+        turns,
+        notches,
+        rundown,
+        ticks,
+        steps,
+    };
+    pack(winder::wind(memory, image, tried, places))
 }

@@ -11,7 +11,6 @@ use Rattle.command.specs.Card.{readingOf, runsIn}
 use Rattle.image.specs.Decode.{stateFrom, timerFrom}
 use Rattle.image.specs.Image.{imageOf}
 use Rattle.joined.specs.Calls.{call-keeps, cardExecuted}
-use Rattle.joined.specs.Keeps.{Kept}
 use Rattle.machine.specs.declared.State.{State}
 use Rattle.call.specs.Call.{Call, buffers, called}
 use Rattle.call.specs.Laws.{by-tests}
@@ -20,13 +19,13 @@ use Rattle.refusal.specs.declared.Refusal.{Refusal}
 use Rattle.refusal.specs.declared.Validity.the-variants.{Good, Refused}
 use Rattle.report.specs.Layout.{reportSize}
 use Rattle.roundtrip.specs.Ranged.{decoded}
-use Rattle.roundtrip.specs.Statement.{Bytes}
+use Rattle.roundtrip.specs.Statement.{Bytes, SoundMachine}
 use Rattle.times.specs.NoTime.{CallNoTime, CallSets, NoTime, WithoutTime, timerAt}
 use Rattle.times.specs.Statement.{timerOf}
 use Rattle.times.specs.Steps.{card-no-time, restated, same, unset}
 
 -- the timer of an image's state
-timer-from : (k : Bool) (b : List ℕ) → timerFrom b (timerAt k) ≡ timerOf k ((stateFrom b) .timers)
+pub timer-from : (k : Bool) (b : List ℕ) → timerFrom b (timerAt k) ≡ timerOf k ((stateFrom b) .timers)
 unfolding stateFrom
 timer-from false b = refl
 timer-from true b = refl
@@ -38,7 +37,7 @@ module _ (k : Bool) (m b card rep : List ℕ) (memory : Bytes m) (image : Bytes 
   -- the same of the image that a call leaves which passed its tests
   timer-left : cardValid (length m) b card (length rep) ≡ Good → timerFrom (imageOf left) (timerAt k) ≡ timerOf k (left .timers)
   timer-left good =
-      let kept : Kept (length m) left ((cardExecuted m b card) .memory) = call-keeps m b card rep good memory image bytes in
+      let kept : SoundMachine (length m) left ((cardExecuted m b card) .memory) = call-keeps m b card rep good memory image bytes in
       timer-from k (imageOf left) ∙ ap (λ (s : State). timerOf k (s .timers)) (decoded left (kept .sound .good) (kept .sound .ranged))
 
   module _ (without : WithoutTime ((readingOf card) .commands)) where

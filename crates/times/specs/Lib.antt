@@ -5,6 +5,7 @@ pub mod Lines
 pub mod Milliseconds
 pub mod NoTime
 pub mod Passing
+pub mod Simulations
 pub mod Statement
 pub mod Steps
 pub mod Users

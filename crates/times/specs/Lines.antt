@@ -105,4 +105,4 @@ iterate-lines (suc (suc n)) st m calm =
     rw same at later
 
 pub run-lines : RunLines
-run-lines n st m = rw (counted n st m .state) (iterate-lines ((runOf n st m) .steps) st m (counted n st m .notEntered))
+run-lines n st m = rw (counted n st m .stepped .state) (iterate-lines ((runOf n st m) .steps) st m (counted n st m .notEntered))

@@ -1,10 +1,11 @@
--- Time passes only by command 08, whatever a program does at the ports: of every run, and of every card without 08.
+-- Time passes only by command 08, whatever a program does at the ports: of every run, of every card without 08, and of every simulation of the
+-- winder.
 -- Assumes nothing.
 use mathlib.Core.Bool.{Bool, false, true}
 use mathlib.Core.List.{List, [], _∷_}
 use mathlib.Core.Logic.{_⊎_}
 use mathlib.Core.Path.{_≡_}
-use Prim.Native.Nat.{ℕ, _<_}
+use Prim.Native.Nat.{ℕ, suc, zero, _<_}
 use lib.ListN.{length}
 use Rattle.card.specs.Call.{cardCall, cardValid}
 use Rattle.card.specs.Effect.{effectOf, executeOf}
@@ -13,11 +14,15 @@ use Rattle.command.specs.declared.Command.{Command}
 use Rattle.command.specs.declared.Command.the-variants.{Run, Time}
 use Rattle.image.specs.Decode.{stateFrom, timerFrom}
 use Rattle.layout.specs.Layout.{timer0At, timer1At}
-use Rattle.machine.specs.Run.{runOf}
+use Rattle.machine.specs.Run.{runOf, throughOf}
 use Rattle.machine.specs.declared.State.{State}
 use Rattle.refusal.specs.declared.Validity.the-variants.{Good}
 use Rattle.roundtrip.specs.Statement.{Bytes}
 use Rattle.timer.specs.declared.Timer.{Timer}
+use Rattle.winder.specs.Call.{windCall, windValid}
+use Rattle.winder.specs.Simulation.{Winder, startOf, tickOf, ticksOf, winderOf}
+use Rattle.winder.specs.declared.Settings.{Settings}
+use Rattle.winder.specs.declared.Stage.{Stage}
 use Rattle.times.specs.Statement.{setsAt, timerOf}
 
 -- no millisecond has passed for a timer; `Set` says that its period was set
@@ -88,3 +93,29 @@ abbrev pub CallNoTime : Type 0
 CallNoTime =
     (k : Bool) (m b card rep : List ℕ) → Bytes m → Bytes b → Bytes card → WithoutTime ((readingOf card) .commands)
     → NoTime (CallSets k m b card rep) (timerFrom b (timerAt k)) (timerFrom ((cardCall m b card rep) .lent .image) (timerAt k))
+
+-- ---- a simulation of the winder
+
+-- one of the steps of so many ticks sets the period of a timer
+unfoldable pub TicksSet : Bool → Winder → ℕ → Stage → List ℕ → Type 0
+TicksSet k w zero at m = ⊥
+TicksSet k w (suc n) at m =
+    SetsWithin k ((throughOf (w .steps) (at .state) m) .steps) (at .state) m
+    ⊎ TicksSet k w n ((tickOf w at m) .stage) ((tickOf w at m) .memory)
+
+-- `ticks-no-time`: in ticks no time passes
+abbrev pub TicksNoTime : Type 0
+TicksNoTime =
+    (k : Bool) (w : Winder) (n : ℕ) (at : Stage) (m : List ℕ)
+    → NoTime (TicksSet k w n at m) (timerOf k (at .state .timers)) (timerOf k ((ticksOf w n at m) .stage .state .timers))
+
+-- a simulation is not refused, and one of its steps sets the period of a timer
+abbrev pub WindSets : Bool → List ℕ → List ℕ → Settings → List ℕ → Type 0
+WindSets k m b s places =
+    (windValid (length m) b s (length places) ≡ Good) × TicksSet k (winderOf s) (s .ticks) (startOf (stateFrom b)) m
+
+-- `wind-no-time`: so by the timers' bytes in a simulation, refused or not
+abbrev pub WindNoTime : Type 0
+WindNoTime =
+    (k : Bool) (m b : List ℕ) (s : Settings) (places : List ℕ) → Bytes m → Bytes b
+    → NoTime (WindSets k m b s places) (timerFrom b (timerAt k)) (timerFrom ((windCall m b s places) .lent .image) (timerAt k))

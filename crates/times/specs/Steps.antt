@@ -177,7 +177,7 @@ step-no-time k st m = rw (step-timers st m) (by-no-time k ((planOf st m) .plan) 
 
 -- ---- a run
 
-onward : {S T : Type 0} {t u v : Timer} → NoTime S t u → NoTime T u v → NoTime (S ⊎ T) t v
+pub onward : {S T : Type 0} {t u v : Timer} → NoTime S t u → NoTime T u v → NoTime (S ⊎ T) t v
 onward a b =
     record {
       fired = λ f. a .fired (b .fired f);
@@ -207,7 +207,7 @@ module _ (k : Bool) (n : ℕ) (st : State) (m : List ℕ) where
       by zero l e = inl e
       by (suc i) l e = inr (record { number = i; within = omega arith; sets = e })
 
-iterate-no-time :
+pub iterate-no-time :
     (k : Bool) (n : ℕ) (st : State) (m : List ℕ)
     → NoTime (SetsWithin k n st m) (timerOf k (st .timers)) (timerOf k ((iterate n st m) .state .timers))
 unfolding iterate
@@ -217,7 +217,7 @@ iterate-no-time k (suc n) st m =
     restated (some k n st m) (which k n st m) (onward (step-no-time k st m) (iterate-no-time k n (o .state) (o .memory)))
 
 pub run-no-time : RunNoTime
-run-no-time k n st m = rw (counted n st m .state) (iterate-no-time k ((runOf n st m) .steps) st m)
+run-no-time k n st m = rw (counted n st m .stepped .state) (iterate-no-time k ((runOf n st m) .steps) st m)
 
 quiet-run : (k : Bool) (n : ℕ) (st : State) (m : List ℕ) → QuietRun k n st m → RunSets k n st m → ⊥
 quiet-run k n st m h s = false≢true (sym (h (s .number) (s .within)) ∙ s .sets)

@@ -132,5 +132,5 @@ iterate-kept (suc (suc n)) st m u calm =
 
 pub user-timers : UserTimers
 user-timers n st m p i =
-    ap (λ (s : State). s .timers) (counted n st m .state)
+    ap (λ (s : State). s .timers) (counted n st m .stepped .state)
     ∙ iterate-kept ((runOf n st m) .steps) st m (record { user = p; noPorts = i }) (counted n st m .notEntered)

@@ -3,8 +3,8 @@
 //! compare [--factor N] [--seed N] [--part PART] [--scenario NAME] [--verbose 1]
 //! compare --replay FILE
 //!
-//! PART is words, runs, cards, timers, following, looks, pairs or scenarios; without it all parts run, side by side.
-//! With `--verbose 1` each case is named before it is tried, for a crash. `--replay` does the case again that a text
+//! PART is words, runs, cards, timers, following, looks, winder, pairs or scenarios; without it all parts run, side by
+//! side. With `--verbose 1` each case is named before it is tried, for a crash. `--replay` does the case again that a text
 //! holds; where something differs, the smallest case found is printed as such a text.
 
 use std::process::exit;
@@ -24,6 +24,7 @@ use tac_tests::replay::{parse, Replay};
 use tac_tests::report::{ENDING, NUMBER, REPORT};
 use tac_tests::rng::Rng;
 use tac_tests::scenarios::{REGISTER_15, SCENARIOS};
+use tac_tests::wound::{self, Wound};
 use tac_tests::{image, met, sample};
 
 /// Held by the part that prints a difference and then ends the program.
@@ -37,6 +38,9 @@ const CARDS: u64 = 150_000;
 const TIMES: u64 = 40_000;
 const FOLLOWING: u64 = 40_000;
 const LOOKS: u64 = 15_000;
+const WINDINGS: u64 = 20_000;
+/// One of so many simulations is done again, and made of runs.
+const AGAIN: u64 = 40;
 const PAIRS: u64 = 60_000;
 /// One of so many pairs is watched.
 const WATCHED: u64 = 20;
@@ -45,13 +49,14 @@ const EACH: u64 = 8_000;
 
 /// A part's name, and what does it and gives its text.
 type Part = (&'static str, fn(&Arguments) -> String);
-const PARTS: [Part; 8] = [
+const PARTS: [Part; 9] = [
     ("words", words),
     ("runs", runs),
     ("cards", cards),
     ("timers", timers),
     ("following", following),
     ("looks", looks),
+    ("winder", winder),
     ("pairs", pairs),
     ("scenarios", scenarios),
 ];
@@ -66,7 +71,7 @@ struct Arguments {
 }
 
 const USAGE: &str =
-    "usage: compare [--factor N] [--seed N] [--part words|runs|cards|timers|following|looks|pairs|scenarios]
+    "usage: compare [--factor N] [--seed N] [--part words|runs|cards|timers|following|looks|winder|pairs|scenarios]
                [--verbose 1]
        compare [--factor N] [--seed N] --scenario NAME
        compare --replay FILE";
@@ -113,7 +118,7 @@ fn list(counts: &[u64]) -> String {
 #[derive(Default)]
 struct Count {
     cases: u64,
-    refused: [u64; 9],
+    refused: [u64; 10],
     endings: [u64; 4],
     entered: [u64; 16],
     steps: u64,
@@ -165,6 +170,9 @@ impl Count {
             self.look(outcome.answer);
             return;
         }
+        if matches!(call, Call::Wind(_)) {
+            return;
+        }
         for report in outcome.report[..outcome.answer as usize].chunks(REPORT) {
             self.run(report);
         }
@@ -173,13 +181,15 @@ impl Count {
     fn text(&self, name: &str, start: Instant) -> String {
         let runs: u64 = self.endings.iter().sum();
         let mut text = format!("{name}: {} cases, {:.1} s, all equal\n", self.cases, start.elapsed().as_secs_f64());
-        let [spent, entered, halted, lost] = self.endings;
-        text += &format!("  runs {runs}: spent {spent}, entered {entered}, halted {halted}, lost {lost}\n");
-        let average = self.steps as f64 / runs.max(1) as f64;
-        let (steps, long, at_once) = (self.steps, self.long, self.at_once);
-        text += &format!(
-            "  steps {steps}: {average:.1} a run, {long} runs of 100 or more, {at_once} with a fault at the first\n"
-        );
+        if runs != 0 {
+            let [spent, entered, halted, lost] = self.endings;
+            text += &format!("  runs {runs}: spent {spent}, entered {entered}, halted {halted}, lost {lost}\n");
+            let average = self.steps as f64 / runs as f64;
+            let (steps, long, at_once) = (self.steps, self.long, self.at_once);
+            text += &format!(
+                "  steps {steps}: {average:.1} a run, {long} runs of 100 or more, {at_once} with a fault at the first\n"
+            );
+        }
         let lists = [
             ("entered by number", &self.entered[..]),
             ("refused by number", &self.refused),
@@ -412,6 +422,43 @@ fn looks(args: &Arguments) -> String {
     }
     let found = [10, 11].map(|number| format!("  looks by cause after entry {number}: {}\n", list(&after[number])));
     count.text("looks", start) + &found.concat()
+}
+
+/// Simulations of a winder. Everything that can happen in one has to happen; some of them are made of the library's own
+/// runs, too.
+fn winder(args: &Arguments) -> String {
+    let (start, mut count, mut maker, mut wound) = (Instant::now(), Count::default(), Maker::new(), Wound::default());
+    let [mut made, mut cut] = [0u64; 2];
+    random(args, "winder", 48, WINDINGS, &mut count, &mut |rng, case| {
+        maker.wind_case(rng, case);
+        wound.case(case);
+        if made % AGAIN == 0 {
+            cut += wound::asked(case) as u64;
+            simulation_again(args, case, made);
+        }
+        made += 1;
+    });
+    let refused = [1, 2, 3, 9].into_iter().filter(|number| count.refused[*number] == 0);
+    let lacking: Vec<String> = refused.map(|number| format!("refusal {number}")).chain(wound.lacking()).collect();
+    happened("winder", &lacking);
+    count.text("winder", start) + &wound.text() + &format!("  simulations made of runs, too: {cut}\n")
+}
+
+/// The library's simulation beside its runs, if it is not refused, and with other bytes behind its buffers.
+fn simulation_again(args: &Arguments, case: &Case, index: u64) {
+    if args.verbose {
+        eprintln!("winder, case {index}, again");
+    }
+    let unlike = |case: &Case| if wound::asked(case) { wound::unlike_runs(&LIBRARY, case) } else { None };
+    let smallest = |fails: &dyn Fn(&Case) -> bool| case::describe(&case::shrink(case, fails), &OWN, &LIBRARY);
+    if let Some(found) = unlike(case) {
+        let what = format!("NOT LIKE ITS RUNS in winder, case {index}\nas found: {found}");
+        stop(&what, || smallest(&|case| unlike(case).is_some()));
+    }
+    if wound::writes_behind(&LIBRARY, case) {
+        let what = format!("WRITES BEHIND A BUFFER in winder, case {index}");
+        stop(&what, || smallest(&|case| wound::writes_behind(&LIBRARY, case)));
+    }
 }
 
 /// Demand 3, on the library alone.

@@ -18,6 +18,9 @@ read-image-requires c κs = search needs
 entries-requires : tie.Need-entries-requires
 entries-requires c κs = search needs
 
+slice-aggregate-run : tie.Need-slice-aggregate-run
+slice-aggregate-run c = search needs
+
 run-requires : tie.Need-run-requires
 run-requires c κs = search needs
 
@@ -28,7 +31,9 @@ word-requires : tie.Need-word-requires
 word-requires c κs = search needs
 
 write-report-requires : tie.Need-write-report-requires
-write-report-requires c κs = search needs
+write-report-requires c κs =
+    let ran = c .before .before .before .before .before .before .before .before .before .before .before in
+    ran .before .before .before .before .before .before .before .before .before .before .before .pre .2
 
 same-length : tie.Need-same-length
 same-length c = search needs
@@ -41,16 +46,18 @@ same-length-3 c = search needs
 
 returns : tie.Need-returns
 returns c =
-    let ran = c .before .before .before .before .before .before .before .before .before .before .before .before .before in
-    let start = ran .before .before .before .before .before .before .before .before .before in
-    rw (← ran .before .before .before .before .read-image .ensures) (
-      ran .run .ensures .1,
+    let ran = c .before .before .before .before .before .before .before .before .before .before .before .before .before .before in
+    let read = ran .before .before .before .before .before .before in
+    let start = read .before .before .before .before .before .args in
+    let r = ran .run .ensures in
+    rw (← read .read-image .ensures) (
+      r .1 .0,
       (
-        c .before .before .before .before .before .before .before .write-image .ensures ∙ ap (λ (f : Finished). imageOf (f .state)) (ran .run .ensures .0),
+        c .before .before .before .before .before .before .before .write-image .ensures ∙ ap (λ (f : Finished). imageOf (f .state)) (r .0),
         c .before .before .write-report .ensures
             ∙ rw (c .before .before .before .word .ensures)
-            (ap (λ (f : Finished). reportOf (f .ending) (f .state .pc) (flagOf (f .state)) (f .steps) (f .states) ++ drop reportSize (start .args .report .now))
-            (ran .run .ensures .0)),
+            (ap (λ (f : Finished). reportOf (f .ending) (f .state .pc) (flagOf (f .state)) (f .steps) (f .states) ++ drop reportSize (start .report .now))
+            (r .0)),
       ),
     )
 
@@ -60,6 +67,7 @@ run-valid-spec =
     (tie.spec
     read-image-requires
     entries-requires
+    slice-aggregate-run
     run-requires
     write-image-requires
     word-requires

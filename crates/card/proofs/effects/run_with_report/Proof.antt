@@ -8,6 +8,9 @@ use Rattle.command.specs.Parts.{front-of-part}
 use Rattle.card.proofs.effects.run_with_report.Statement.{statement}
 use Rattle.card.proofs.effects.run_with_report.Tie as tie
 
+slice-aggregate-run : tie.Need-slice-aggregate-run
+slice-aggregate-run c = search needs
+
 run-requires : tie.Need-run-requires
 run-requires c κs = search needs
 
@@ -35,17 +38,18 @@ same-length-2 c = search needs
 returns : tie.Need-returns
 returns c =
     let written = c .before .before in
-    let ran = written .before .before .before .before .before .before .before in
-    let start = ran .before .before .before .before in
-    let end = ran .run .result in
+    let ran = c .before .before .before .before .before .before .before .before .before .before .run in
+    let start = c .before .before .before .before .before .before .before .before .before .before .before .before .before .before .before .before .args in
+    let end = ran .result in
     let bytes = reportOf (end .ending) (end .state .pc) (written .before .word .result) (end .steps) (end .states) in
-    let report = front-of-part (start .args .filled) reportSize bytes (start .args .report .now) _ (written .write-report .ensures) in
-    (rw (ran .run .ensures .0), (ran .run .ensures .1, report ∙ rw (written .before .word .ensures, ran .run .ensures .0)))
+    let report = front-of-part (start .filled) reportSize bytes (start .report .now) _ (written .write-report .ensures) in
+    (rw (ran .ensures .0), (ran .ensures .1 .0, report ∙ rw (written .before .word .ensures, ran .ensures .0)))
 
 pub run-with-report-spec : {M : Type 1} → statement M
 run-with-report-spec =
     tie.close
     (tie.spec
+    slice-aggregate-run
     run-requires
     sub-write-report
     part-write-report-start

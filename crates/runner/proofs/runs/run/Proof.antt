@@ -1,4 +1,4 @@
--- `runner::runs::by_turns` meets its contract.
+-- `runner::runs::run` meets its contract.
 -- Assumes nothing.
 use mathlib.Core.Logic.{⊎-elim}
 use mathlib.Core.Path.{refl, sym, _∙_, _≡_}
@@ -9,8 +9,8 @@ use lib.ListN.{length}
 use Rattle.machine.proofs.Turn.{Reached, at-end, at-entry, at-halt, at-loss, ended, goes-through, start}
 use Rattle.pages.specs.Kept.{Kept}
 use Rattle.runner.proofs.Onward.{goes-unentered, onward}
-use Rattle.runner.proofs.runs.by_turns.Statement.{statement}
-use Rattle.runner.proofs.runs.by_turns.Tie as tie
+use Rattle.runner.proofs.runs.run.Statement.{statement}
+use Rattle.runner.proofs.runs.run.Tie as tie
 
 abbrev Inv-loop : tie.InvT-loop
 Inv-loop mem₀ allowance through table maps₀ origin₀ state₀ steps₀ states₀ spare₀ mem maps origin state steps states spare =
@@ -213,8 +213,8 @@ loop-again-2 c =
       same-maps led,
     )
 
-pub by-turns-spec : {M : Type 1} → statement M
-by-turns-spec =
+pub run-spec : {M : Type 1} → statement M
+run-spec =
     tie.close
     (tie.spec
     Inv-loop

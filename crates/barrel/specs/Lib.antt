@@ -1,0 +1,2 @@
+pub mod Barrel
+pub mod Laws

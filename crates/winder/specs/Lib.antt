@@ -1,0 +1,5 @@
+pub mod Bounds
+pub mod Call
+pub mod Laws
+pub mod Simulation
+pub mod Ticked

@@ -1,0 +1,5 @@
+pub mod Calls
+pub mod Input
+pub mod Statement
+pub mod Theorem
+pub mod Worked
