@@ -206,12 +206,12 @@ uint64_t tac_view(const uint8_t *memory, size_t memory_len, const uint8_t *image
 uint64_t tac_fault(const uint8_t *image, size_t image_len);
 
 /* A simulation of a winder with this machine, from a barrel on which no notch stands. In each tick the machine does `steps` steps, going on
- * through kernel entries, or fewer where it halts or is lost; found so it does none, and the ticks go on. Then TAC_OUTPUT_MOTOR of the
- * output byte, if set, winds one notch; then, on each `rundown`-th tick, counted from 1, the train takes one, if any is left.
- * TAC_INPUT_LABEL of the input byte is clear in the first tick, and in each other one set exactly if standing / notches has reached
- * `turns`; the image is left with it by the same rule, and the other bits are kept. The places get the notches standing after each tick, a
- * word each; the bytes behind them are kept. It gives the first tick, counted from 1, with more standing than turns × notches, or 0 for
- * none. Refusals 1, 2, 3 and 9. */
+ * through kernel entries, or fewer where it halts or is lost; found so it does none, and the ticks go on. No time passes for the timers, so
+ * none fires. Then TAC_OUTPUT_MOTOR of the output byte, if set, winds one notch; then, on each `rundown`-th tick, counted from 1, the train
+ * takes one, if any is left. TAC_INPUT_LABEL of the input byte is clear in the first tick, and in each other one set exactly if standing /
+ * notches has reached `turns`; the image is left with it by the same rule, and the other bits are kept. The places get the notches standing
+ * after each tick, a word each; the bytes behind them are kept. It gives the first tick, counted from 1, with more standing than turns ×
+ * notches, or 0 for none. Refusals 1, 2, 3 and 9. */
 uint64_t tac_wind(uint8_t *memory, size_t memory_len, uint8_t *image, size_t image_len, uint32_t turns, uint32_t notches, uint32_t rundown,
                   uint32_t ticks, uint32_t steps, uint8_t *places, size_t places_len);
 
