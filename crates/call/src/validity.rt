@@ -3,7 +3,7 @@ ghost use Rattle.std.specs.Prelude.{◌≡◌};
 ghost use Rattle.call.specs.Valid as def;
 
 use layout::IMAGE;
-use refusal::{Cause, Validity, and_then, good_if, refused};
+use refusal::{Cause, Validity, and_then, refused};
 use report::REPORT;
 
 // Bytes of memory.
@@ -13,7 +13,10 @@ const MEMORY: usize = 65536;
 fn validate_memory(memory: usize) -> Validity
     ensures { result ≡ def.memory_valid memory }
 {
-    good_if(memory == MEMORY, Cause::MemoryLength)
+    if memory != MEMORY {
+        return refused(Cause::MemoryLength);
+    }
+    Validity::Good
 }
 
 // Refusals 2 and 3.
@@ -23,7 +26,11 @@ pub fn validate_image(image: &[u8]) -> Validity
     if image.len() != IMAGE {
         return refused(Cause::ImageLength);
     }
-    good_if(layout::good_image(image), Cause::ImageField)
+    if layout::good_image(image) {
+        Validity::Good
+    } else {
+        refused(Cause::ImageField)
+    }
 }
 
 // Refusals 1 to 3.
@@ -39,7 +46,11 @@ pub fn validate_machine(memory: usize, image: &[u8]) -> Validity
 pub fn report_fits(length: usize, needed: usize) -> Validity
     ensures { result ≡ def.report_fits length needed }
 {
-    good_if(needed <= length, Cause::ReportLength)
+    if needed <= length {
+        Validity::Good
+    } else {
+        refused(Cause::ReportLength)
+    }
 }
 
 // The tests of a run and of a view.

@@ -2,12 +2,15 @@
 -- Assumes nothing.
 use Rattle.std.specs.Prelude.{Bool, true, ◌&&◌, ◌≡◌, ℕ, ◌*◌, ◌/◌, ◌≤◌, leb}
 use Rattle.std.proofs.Common.{arith, le-leb, leb-true}
-use Rattle.refusal.specs.Laws.{Range, between_range, range_between, test_good}
-use Rattle.refusal.specs.Refusal.{between}
+use Rattle.refusal.specs.Laws.{test_good}
 use Rattle.refusal.specs.declared.Validity.TheVariants.{Good}
 use Rattle.word.specs.Cases.{rest, this}
-use Rattle.winder.specs.Call.{settings_good, settings_valid}
+use Rattle.winder.specs.Call.{between, settings_good, settings_valid}
 use Rattle.winder.specs.declared.Settings.{Settings}
+
+pub record Range (low high x : ℕ) : Type 0 where
+  pub least : low ≤ x
+  pub most : x ≤ high
 
 -- each number is within its bounds
 pub record InBounds (s : Settings) : Type 0 where
@@ -16,6 +19,10 @@ pub record InBounds (s : Settings) : Type 0 where
   pub rundown : Range 1 64 s.rundown
   pub ticks : Range 1 65535 s.ticks
   pub steps : Range 1 65535 s.steps
+
+between_range : (low high x : ℕ) → between low high x ≡ true → Range low high x
+between_range low high x e =
+    record { least = leb-true low x (this (leb low x) (leb x high) e); most = leb-true x high (rest (leb low x) (leb x high) e) }
 
 pub settings_good_lem : (s : Settings) (places : ℕ) → settings_valid s places ≡ Good → InBounds s × (2 * s.ticks ≤ places)
 unfolding settings_valid settings_good
@@ -41,6 +48,9 @@ settings_good_lem s places e =
       },
       omega arith,
     )
+
+range_between : (low high x : ℕ) → Range low high x → between low high x ≡ true
+range_between low high x r = rw (le-leb low x r.least, le-leb x high r.most)
 
 pub settings_pass : (s : Settings) (places : ℕ) → InBounds s → 2 * s.ticks ≤ places → settings_valid s places ≡ Good
 unfolding settings_valid settings_good

@@ -3,7 +3,14 @@ ghost use Rattle.std.specs.Prelude.{◌≡◌};
 ghost use Rattle.winder.specs.Call as def;
 
 use crate::Settings;
-use refusal::{Cause, Validity, and_then, between, good_if};
+use refusal::{Cause, Validity, and_then, refused};
+
+// Whether x is from low to high, both included.
+fn between(low: u32, high: u32, x: u32) -> bool
+    ensures { result ≡ def.between low high x }
+{
+    (low <= x) & (x <= high)
+}
 
 fn good_settings(settings: Settings, places: usize) -> bool
     ensures { result ≡ def.settings_good settings places }
@@ -20,7 +27,11 @@ fn good_settings(settings: Settings, places: usize) -> bool
 fn validate_settings(settings: Settings, places: usize) -> Validity
     ensures { result ≡ def.settings_valid settings places }
 {
-    good_if(good_settings(settings, places), Cause::WinderSetting)
+    if good_settings(settings, places) {
+        Validity::Good
+    } else {
+        refused(Cause::WinderSetting)
+    }
 }
 
 // Refusals 1, 2, 3 and 9.

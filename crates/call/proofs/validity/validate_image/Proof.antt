@@ -17,14 +17,20 @@ returns c = c.refused.ensures ∙ rw (ne_eqb _ _ c.before.if1.true)
 good-image-requires : tie.Need-good-image-requires
 good-image-requires c κs = search rules
 
-good-if-requires : tie.Need-good-if-requires
-good-if-requires c κs = search rules
+refused-requires-2 : tie.Need-refused-requires-2
+refused-requires-2 c κs = search rules
 
 returns-2 : tie.Need-returns-2
 unfolding image_valid
 returns-2 c =
     let good = c.before in
-    c.good-if.ensures ∙ rw (eq-eqb _ _ good.before.if1.false, ← good.good-image.ensures)
+    rw (eq-eqb _ _ good.before.if1.false, ← good.good-image.ensures, c.if2.true)
+
+returns-3 : tie.Need-returns-3
+unfolding image_valid
+returns-3 c =
+    let good = c.before.before in
+    c.refused2.ensures ∙ rw (eq-eqb _ _ good.before.if1.false, ← good.good-image.ensures, c.before.if2.false)
 
 pub validate_image_spec : {M : Type 1} → statement M
 validate_image_spec =
@@ -33,5 +39,6 @@ validate_image_spec =
     refused-requires
     returns
     good-image-requires
-    good-if-requires
-    returns-2)
+    refused-requires-2
+    returns-2
+    returns-3)

@@ -9,12 +9,16 @@ use Rattle.winder.proofs.validity.validate_settings.Tie as tie
 good-settings-requires : tie.Need-good-settings-requires
 good-settings-requires c κs = search rules
 
-good-if-requires : tie.Need-good-if-requires
-good-if-requires c κs = search rules
+refused-requires : tie.Need-refused-requires
+refused-requires c κs = search rules
 
 returns : tie.Need-returns
 unfolding settings_valid
-returns c = c.good-if.ensures ∙ rw c.before.good-settings.ensures
+returns c = rw (← c.before.good-settings.ensures, c.if1.true)
+
+returns-2 : tie.Need-returns-2
+unfolding settings_valid
+returns-2 c = c.refused.ensures ∙ rw (← c.before.before.good-settings.ensures, c.before.if1.false)
 
 pub validate_settings_spec : {M : Type 1} → statement M
-validate_settings_spec = tie.close (tie.spec good-settings-requires good-if-requires returns)
+validate_settings_spec = tie.close (tie.spec good-settings-requires refused-requires returns returns-2)
