@@ -1,4 +1,6 @@
 // Results and flags of the instructions from ADD to SHRL. `a` is the register, `b` the source.
+#![tactic(auto)]
+
 ghost use Rattle.std.specs.Prelude.{not, ◌≡◌, ◌+ℤ◌, ◌-ℤ◌};
 ghost use Rattle.alu.specs.Alu as def;
 ghost use Rattle.word.specs.Signed.{in_word, signed};

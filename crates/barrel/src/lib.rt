@@ -1,4 +1,6 @@
 // The barrel of a winder: what winds and takes a notch, when the label is reached, what the input bit tells of it, and when it is over.
+#![tactic(auto)]
+
 ghost use Rattle.std.specs.Prelude.{◌≡◌, ◌≤◌};
 ghost use Rattle.barrel.specs.Barrel as def;
 

@@ -1,4 +1,6 @@
 // Runs a bench card: reads it from standard input and writes its listing to standard output.
+#![tactic(auto)]
+
 ghost use Rattle.std.specs.Prelude.{◌≡◌, ◌≤◌, length, take};
 ghost use Rattle.bench.specs.Bench.{bench_of};
 

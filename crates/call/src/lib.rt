@@ -1,4 +1,6 @@
 // What a call answers, whatever it is lent, and the tests of what most calls are lent: memory, image and report.
+#![tactic(auto)]
+
 mod validity;
 
 use refusal::Refusal;

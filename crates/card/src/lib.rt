@@ -1,4 +1,6 @@
 // Bench cards: their calls, and what their commands do.
+#![tactic(auto)]
+
 mod calls;
 mod effects;
 mod validity;

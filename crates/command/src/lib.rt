@@ -1,4 +1,6 @@
 // The commands of a bench card: what stands at a position of a card.
+#![tactic(auto)]
+
 mod parser;
 
 pub use parser::parse;

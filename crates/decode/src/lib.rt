@@ -1,4 +1,6 @@
 // Instruction words: the decoding table, the first word, the operand.
+#![tactic(auto)]
+
 pub mod code;
 mod opcode;
 mod operands;

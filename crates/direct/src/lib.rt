@@ -1,4 +1,6 @@
 // A run as a call, on buffers that the caller lends.
+#![tactic(auto)]
+
 ghost use Rattle.std.specs.Prelude.{◌++◌, ◌≡◌, ◌≤◌, drop, length};
 ghost use Rattle.image.specs.Decode.{state_from};
 ghost use Rattle.image.specs.Image.{image_of};

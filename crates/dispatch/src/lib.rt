@@ -1,6 +1,8 @@
 // The instruction of a first word, by its first byte, which document 01 lists: 8 times the code, plus the mode. Code and mode stand as constants in each
 // arm, so that the compiled loop makes one jump by the byte into code for that instruction in that mode. The arms are a table in six functions, in two
 // chains: the compiler would not put a longer function into the loop.
+#![tactic(auto)]
+
 ghost use Rattle.std.specs.Prelude.{◌≡◌, ◌%◌, ◌*◌, ◌+◌, ◌/◌, ◌<◌, length};
 ghost use Rattle.word.specs.Word.{upper};
 ghost use Rattle.hot.specs.Tells.{Tells, Told};

@@ -1,4 +1,6 @@
 // The record of a fault.
+#![tactic(auto)]
+
 ghost use Rattle.std.specs.Prelude.{◌≡◌};
 ghost use Rattle.mmu.specs.Answers.{fault_number};
 ghost use Rattle.fault.specs.Fault as def;

@@ -1,4 +1,6 @@
 // One plain instruction on PC, the arithmetic flags and the registers alone. One that is not plain is not carried out here.
+#![tactic(auto)]
+
 mod arm;
 mod flags;
 mod turn;

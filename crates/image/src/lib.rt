@@ -1,4 +1,6 @@
 // The state image: a machine's state as bytes.
+#![tactic(auto)]
+
 mod decoder;
 mod encoder;
 

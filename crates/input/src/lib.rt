@@ -1,4 +1,6 @@
 // Standard input, read to its end.
+#![tactic(auto)]
+
 ghost use Rattle.std.specs.Prelude.{◌≡◌, ◌≤◌, length};
 ghost use Rattle.std.specs.Int.Signed.{non_neg};
 ghost use Rattle.input.specs.Input.{ReadAt, ReadTo};

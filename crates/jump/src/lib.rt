@@ -1,4 +1,6 @@
 // Jump conditions.
+#![tactic(auto)]
+
 ghost use Rattle.std.specs.Prelude.{Bool, ◌≡◌, ◌<◌, ◌≤◌};
 ghost use Rattle.jump.specs.Jump as def;
 

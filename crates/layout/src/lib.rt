@@ -1,4 +1,6 @@
 // The layout of a state image: the offset of each field, sizes in bytes, TLB entries in bytes; and the tests of its fields.
+#![tactic(auto)]
+
 mod entries;
 mod validity;
 

@@ -1,4 +1,6 @@
 // The listing of a bench card.
+#![tactic(auto)]
+
 ghost use Rattle.std.specs.Prelude.{◌≡◌, min, ◌/◌, ◌≤◌, length};
 ghost use Rattle.report.specs.Layout.{report_size};
 ghost use Rattle.listing.specs.Listing as def;

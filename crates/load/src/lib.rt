@@ -1,4 +1,6 @@
 // The load of a motor: how many records of a run are on in the busiest of its windows.
+#![tactic(auto)]
+
 ghost use Rattle.std.specs.Prelude.{◌≡◌};
 ghost use Rattle.call.specs.Call.{called};
 ghost use Rattle.load.specs.Call as def;

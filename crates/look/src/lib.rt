@@ -1,4 +1,6 @@
 // A look at the fault record as a call, on an image that the caller lends.
+#![tactic(auto)]
+
 ghost use Rattle.std.specs.Prelude.{◌≡◌};
 ghost use Rattle.call.specs.Call.{called};
 ghost use Rattle.look.specs.Call as def;

@@ -1,4 +1,6 @@
 // The machine: its state, and what each of its parts answers.
+#![tactic(auto)]
+
 mod entry;
 mod execution;
 mod flag;

@@ -1,4 +1,6 @@
 // Memory, by physical address.
+#![tactic(auto)]
+
 ghost use Rattle.std.specs.Prelude.{◌≡◌, length};
 ghost use Rattle.memory.specs.Memory as def;
 

@@ -1,4 +1,6 @@
 // The MMU: TLB entries, the lookup of a page, an access.
+#![tactic(auto)]
+
 mod accesses;
 pub mod bits;
 mod entry;

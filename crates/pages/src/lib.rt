@@ -1,4 +1,6 @@
 // The map of a machine's pages, and the accesses by it: a map gives an access only where that is granted and leaves the TLB as it is.
+#![tactic(auto)]
+
 mod access;
 mod kept;
 mod map;

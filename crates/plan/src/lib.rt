@@ -1,4 +1,6 @@
 // What a step is going to do: the last tests of an instruction, its result, the plan.
+#![tactic(auto)]
+
 mod results;
 mod tests;
 

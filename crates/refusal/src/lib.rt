@@ -1,4 +1,6 @@
 // Refusals: why a call is refused, and tests one after the other.
+#![tactic(auto)]
+
 mod tests;
 
 pub use tests::{and_then, between, good_if, number_of, refused};

@@ -1,4 +1,6 @@
 // The report of a run: 12 bytes.
+#![tactic(auto)]
+
 ghost use Rattle.std.specs.Prelude.{◌++◌, ◌≡◌, ◌≤◌, drop, length};
 ghost use Rattle.machine.specs.Answers.{ending_entered, ending_number};
 ghost use Rattle.report.specs.Report as def;

@@ -1,5 +1,7 @@
 // The runner: a second tier above the machine. Plain instructions are carried out on PC, the arithmetic flags and the registers alone; every
 // other step is the machine's.
+#![tactic(auto)]
+
 mod ahead;
 mod quick;
 mod runs;

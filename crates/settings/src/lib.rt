@@ -1,4 +1,6 @@
 // What the commands 02, 03, 05, 06 and 08 of a card do to the state.
+#![tactic(auto)]
+
 ghost use Rattle.std.specs.Prelude.{◌≡◌, set};
 ghost use Rattle.machine.specs.State.{with_mmu, with_tlb};
 ghost use Rattle.settings.specs.Settings as def;

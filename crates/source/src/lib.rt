@@ -1,4 +1,6 @@
 // The operand stage of a plain instruction: the registers, and the source that each mode names.
+#![tactic(auto)]
+
 mod operand;
 mod registers;
 

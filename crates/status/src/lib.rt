@@ -1,4 +1,6 @@
 // FLAG, the pending lines, and what a kernel entry saves.
+#![tactic(auto)]
+
 mod flag;
 mod pending;
 mod saved;

@@ -1,6 +1,8 @@
 // Runs stored cards. Standard input holds cases, one behind the other, numbers upper byte first: how many bytes the memory lacks (2) and the
 // image (1), FLAG (2), the report's length (2), the card's length (2), the card. The rest of memory and image is zero. The listing of each
 // case is written to standard output.
+#![tactic(auto)]
+
 ghost use Rattle.std.specs.Prelude.{◌+◌, ◌≤◌, length};
 ghost use Rattle.layout.specs.Layout.{image_size};
 

@@ -1,4 +1,6 @@
 // The interface for C: runs, cards, views, looks, simulations of a winder and the load of its motor, on buffers that the caller lends.
+#![tactic(auto)]
+
 ghost use Rattle.std.specs.Prelude.{◌≡◌};
 ghost use Rattle.call.specs.Call.{buffers, called};
 ghost use Rattle.card.specs.Call.{card_call};

@@ -1,4 +1,6 @@
 // The tests of a card by itself, and its runs counted.
+#![tactic(auto)]
+
 ghost use Rattle.std.specs.Prelude.{◌≡◌, ◌≤◌, length};
 ghost use Rattle.command.specs.Card as def;
 

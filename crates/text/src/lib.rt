@@ -1,4 +1,6 @@
 // Bytes and numbers as text. What writes takes a cursor, and answers where the cursor then is.
+#![tactic(auto)]
+
 ghost use Rattle.std.specs.Prelude.{[], ◌∷◌, ◌≡◌, ◌<◌, ◌≤◌, length};
 ghost use Rattle.text.specs.Text as def;
 ghost use Rattle.text.specs.Written.{WroteText};

@@ -1,4 +1,6 @@
 // The two timers: their words, their ports, and the milliseconds that pass.
+#![tactic(auto)]
+
 mod port;
 mod time;
 

@@ -1,4 +1,6 @@
 // The accesses of an instruction: the fetch of its words, and its data access.
+#![tactic(auto)]
+
 mod data;
 mod stores;
 

@@ -1,4 +1,6 @@
 // A view: the report of a run of no step, on buffers that the caller lends.
+#![tactic(auto)]
+
 ghost use Rattle.std.specs.Prelude.{List, ◌++◌, ◌≡◌, ℕ, ◌≤◌, drop, length};
 ghost use Rattle.image.specs.Decode.{state_from};
 ghost use Rattle.layout.specs.Layout.{image_size};

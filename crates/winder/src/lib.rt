@@ -1,4 +1,6 @@
 // A winder to try settings on: a machine whose output byte winds a barrel and whose input byte tells of it, tick after tick.
+#![tactic(auto)]
+
 ghost use Rattle.std.specs.Prelude.{◌≡◌, ◌*◌, ◌≤◌, length};
 ghost use Rattle.call.specs.Call.{called};
 ghost use Rattle.call.specs.declared.Answer.TheVariants.{Done};

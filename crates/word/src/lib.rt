@@ -1,4 +1,6 @@
 // Words of 16 bits: sums and differences that wrap, words and four-bit fields as signed numbers; the widths of an access.
+#![tactic(auto)]
+
 mod signed;
 mod word;
 

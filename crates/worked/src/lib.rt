@@ -1,1 +1,2 @@
 // Worked examples about the definitions of `machine`: theorems, no functions.
+#![tactic(auto)]

@@ -21,22 +21,22 @@ carried a b h =
 plus-requires : tie.Need-plus-requires
 plus-requires c κs = search rules
 
-sum-overflows-requires : tie.Need-sum-overflows-requires
+sum-overflows-requires : tie.Need-sum_overflows-requires
 sum-overflows-requires c κs = search rules
 
 sub-with-flags : tie.Need-overflow-sub-with-flags
 sub-with-flags c = search rules
 
-with-flags-requires : tie.Need-with-flags-requires
+with-flags-requires : tie.Need-with_flags-requires
 with-flags-requires c κs = search rules
 
 returns : tie.Need-returns
 unfolding add_of
 returns c =
-    c.with-flags.ensures
+    c.with_flags.ensures
     ∙ rw (
       c.before.before.plus.ensures,
-      c.before.sum-overflows.ensures,
+      c.before.sum_overflows.ensures,
       carried _ c.before.before.before.args.b c.before.before.before.ranges.a.fits,
     )
 

@@ -13,12 +13,12 @@ plus-requires c κs = search rules
 plus-requires-2 : tie.Need-plus-requires-2
 plus-requires-2 c κs = search rules
 
-with-flags-requires : tie.Need-with-flags-requires
+with-flags-requires : tie.Need-with_flags-requires
 with-flags-requires c κs = search rules
 
 returns : tie.Need-returns
 unfolding adds_of
-returns c = c.with-flags.ensures ∙ ap plain (omega arith)
+returns c = c.with_flags.ensures ∙ ap plain (omega arith)
 
 pub adds_spec : {M : Type 1} → statement M
 adds_spec = tie.close (tie.spec plus-requires plus-requires-2 with-flags-requires returns)

@@ -6,20 +6,20 @@ use Rattle.alu.specs.Alu.{div_of}
 use Rattle.alu.proofs.div.Statement.{statement}
 use Rattle.alu.proofs.div.Tie as tie
 
-with-flags-requires : tie.Need-with-flags-requires
+with-flags-requires : tie.Need-with_flags-requires
 with-flags-requires c κs = search rules
 
 returns : tie.Need-returns
 unfolding div_of
-returns c = rw (eq-eqb _ _ c.before.if1.true) c.with-flags.ensures
+returns c = rw (eq-eqb _ _ c.before.if1.true) c.with_flags.ensures
 
 div-with-flags : tie.Need-nonzero-div-with-flags
 div-with-flags c = search rules
 
-with-flags-requires-2 : tie.Need-with-flags-requires-2
+with-flags-requires-2 : tie.Need-with_flags-requires-2
 with-flags-requires-2 c κs = search rules
 
-returns-2 : tie.Need-returns-2
+returns-2 : tie.Need-returns
 unfolding div_of
 returns-2 c = rw (ne_eqb _ _ c.before.if1.false) c.with-flags2.ensures
 

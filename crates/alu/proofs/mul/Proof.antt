@@ -8,7 +8,7 @@ use Rattle.alu.specs.Alu.{mul_of}
 use Rattle.alu.proofs.mul.Statement.{statement}
 use Rattle.alu.proofs.mul.Tie as tie
 
-mul-product : tie.Need-overflow-mul-product
+mul-product : tie.Need-overflow_mul-product
 mul-product c =
     record {
       fits =
@@ -18,12 +18,12 @@ mul-product c =
 cast-with-flags : tie.Need-overflow-cast-with-flags
 cast-with-flags c = search rules
 
-with-flags-requires : tie.Need-with-flags-requires
+with-flags-requires : tie.Need-with_flags-requires
 with-flags-requires c κs = search rules
 
 returns : tie.Need-returns
 unfolding mul_of
-returns c = c.with-flags.ensures
+returns c = c.with_flags.ensures
 
 pub mul_spec : {M : Type 1} → statement M
 mul_spec = tie.close (tie.spec mul-product cast-with-flags with-flags-requires returns)

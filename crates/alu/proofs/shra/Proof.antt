@@ -25,30 +25,30 @@ held_shifted a n z h e =
       to_z-of_z w16 (shr_z (signed a) n) (record { sfits = shr_mag a n h }),
     )
 
-to-signed-requires : tie.Need-to-signed-requires
+to-signed-requires : tie.Need-to_signed-requires
 to-signed-requires c κs = search rules
 
-cast-shifted : tie.Need-overflow-cast-shifted
+cast-shifted : tie.Need-overflow_cast-shifted
 cast-shifted c = search rules
 
-shr-shifted : tie.Need-overflow-shr-shifted
+shr-shifted : tie.Need-overflow_shr-shifted
 shr-shifted c = search rules
 
-to-word-requires : tie.Need-to-word-requires
+to-word-requires : tie.Need-to_word-requires
 to-word-requires c κs = search rules
 
-with-flags-requires : tie.Need-with-flags-requires
+with-flags-requires : tie.Need-with_flags-requires
 with-flags-requires c κs = search rules
 
 returns : tie.Need-returns
 unfolding shra_of
 returns c =
-    c.with-flags.ensures
+    c.with_flags.ensures
     ∙ rw (
       c.before.to_word.ensures,
       held_shifted _ (2 ^ (c.before.before.before.args.b % 16)) _
           c.before.before.before.ranges.a.fits
-          c.before.before.to-signed.ensures,
+          c.before.before.to_signed.ensures,
     )
 
 pub shra_spec : {M : Type 1} → statement M

@@ -9,17 +9,17 @@ use Rattle.alu.proofs.sub.Tie as tie
 minus-requires : tie.Need-minus-requires
 minus-requires c κs = search rules
 
-difference-overflows-requires : tie.Need-difference-overflows-requires
+difference-overflows-requires : tie.Need-difference_overflows-requires
 difference-overflows-requires c κs = search rules
 
-with-flags-requires : tie.Need-with-flags-requires
+with-flags-requires : tie.Need-with_flags-requires
 with-flags-requires c κs = search rules
 
 returns : tie.Need-returns
 unfolding sub_of
 returns c =
-    c.with-flags.ensures
-    ∙ rw (c.before.before.minus.ensures, c.before.difference-overflows.ensures)
+    c.with_flags.ensures
+    ∙ rw (c.before.before.minus.ensures, c.before.difference_overflows.ensures)
 
 pub sub_spec : {M : Type 1} → statement M
 sub_spec =

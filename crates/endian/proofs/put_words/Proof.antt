@@ -15,7 +15,7 @@ invariant-loop bytes₀ at words k₀ k-end bytes k = Stored word_bytes bytes₀
 abbrev decreases-loop : tie.decreases-loop
 decreases-loop bytes₀ at words k₀ k-end bytes k = length words - k
 
-loop-holds : tie.Need-loop-init invariant-loop decreases-loop
+loop-holds : tie.Need-loop-k-init invariant-loop decreases-loop
 loop-holds c = stored_none words_laid
 
 mul-put-word : tie.Need-overflow-mul-put-word invariant-loop decreases-loop
@@ -27,24 +27,24 @@ add-put-word c = omega arith
 mul-put-word-2 : tie.Need-overflow-mul-put-word-2 invariant-loop decreases-loop
 mul-put-word-2 c = omega arith
 
-shared-slice-read-put-word : tie.Need-shared-slice-read-put-word invariant-loop decreases-loop
+shared-slice-read-put-word : tie.Need-bounds-words-k invariant-loop decreases-loop
 shared-slice-read-put-word c = omega arith
 
-put-word-requires : tie.Need-put-word-requires invariant-loop decreases-loop
+put-word-requires : tie.Need-put_word-requires invariant-loop decreases-loop
 put-word-requires c κs = omega arith
 
 add-k : tie.Need-overflow-add-k invariant-loop decreases-loop
 add-k c = omega arith
 
-loop-less : tie.Need-loop-smaller invariant-loop decreases-loop
+loop-less : tie.Need-loop-k-smaller invariant-loop decreases-loop
 loop-less c = omega arith
 
-loop-again : tie.Need-loop-preserved invariant-loop decreases-loop
+loop-again : tie.Need-loop-k-preserved invariant-loop decreases-loop
 loop-again c =
     let head = c.before.before.before.before.before in
     stored_more words_laid head.before.loop.invariant head.loop-test.true c.before.before.put_word.ensures refl
 
-same_length : tie.Need-same-length invariant-loop decreases-loop
+same_length : tie.Need-shape_of-bytes invariant-loop decreases-loop
 same_length c = omega arith
 
 returns : tie.Need-returns invariant-loop decreases-loop

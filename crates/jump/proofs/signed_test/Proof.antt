@@ -6,19 +6,19 @@ use Rattle.jump.specs.Jump.{condition_of}
 use Rattle.jump.proofs.signed_test.Statement.{statement}
 use Rattle.jump.proofs.signed_test.Tie as tie
 
-returns : tie.Need-returns
+returns : tie.Need-returns-in-4
 unfolding condition_of
 returns c = λ b. rw c.match.keys1
 
-returns-2 : tie.Need-returns-2
+returns-2 : tie.Need-returns-in-5
 unfolding condition_of
 returns-2 c = λ b. rw c.match.keys2
 
-returns-3 : tie.Need-returns-3
+returns-3 : tie.Need-returns-in-6
 unfolding condition_of
 returns-3 c = λ b. rw c.match.keys3
 
-returns-4 : tie.Need-returns-4
+returns-4 : tie.Need-returns-in_default
 unfolding condition_of
 returns-4 c =
     let last : c.before.args.code ≡ 7 = omega arith in

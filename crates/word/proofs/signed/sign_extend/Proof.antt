@@ -67,16 +67,16 @@ module _ (field : ℕ) where
   in_either_half : pos bits -ℤ pos (bits / 8 * 16) ≡ signed4 field
   in_either_half = ⊎_elim low high (order bits 8)
 
-cast-bits : tie.Need-overflow-cast-bits
+cast-bits : tie.Need-overflow_cast-bits
 cast-bits c = search rules
 
-div-result : tie.Need-nonzero-div-result
+div-result : tie.Need-nonzero_div-result
 div-result c = search (rules, quotient_fits, field_small)
 
-mul-result : tie.Need-overflow-mul-result
+mul-result : tie.Need-overflow_mul-result
 mul-result c = search (rules, product_fits, field_small)
 
-sub-result : tie.Need-overflow-sub-result
+sub-result : tie.Need-overflow_sub-result
 sub-result c = search (rules, difference_fits, field_small)
 
 returns : tie.Need-returns

@@ -39,19 +39,19 @@ module _ (w : ℕ) (small : w < 65536) where
   held_fits : SFits w16 (to_z w32 (of_z w32 (to_z w32 w -ℤ to_z w32 (top w))))
   held_fits = rw held (record { sfits = signed_mag w small })
 
-cast-top : tie.Need-overflow-cast-top
+cast-top : tie.Need-overflow_cast-top
 cast-top c = search rules
 
-cast-result : tie.Need-overflow-cast-result
+cast-result : tie.Need-overflow_cast-result
 cast-result c = search rules
 
-mul-result : tie.Need-overflow-mul-result
+mul-result : tie.Need-overflow_mul-result
 mul-result c = product_fits c.args.w c.ranges.w.fits
 
-sub-result : tie.Need-overflow-sub-result
+sub-result : tie.Need-overflow_sub-result
 sub-result c = difference_fits c.args.w c.ranges.w.fits
 
-cast-result-2 : tie.Need-overflow-cast-result-2
+cast-result-2 : tie.Need-overflow_cast-result-2
 cast-result-2 c = held_fits c.args.w c.ranges.w.fits
 
 returns : tie.Need-returns

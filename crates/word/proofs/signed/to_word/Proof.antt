@@ -55,16 +55,16 @@ module _ (x : ℤ) (fits : SFits w16 x) where
     bits_of : above x % m ≡ word x → nat_abs (to_z w32 (remainder x m)) ≡ word x
     bits_of e = rw rest e
 
-cast-result : tie.Need-overflow-cast-result
+cast-result : tie.Need-overflow_cast-result
 cast-result c = rw (held _ c.ranges.x) (wide _ c.ranges.x)
 
-add-result : tie.Need-overflow-add-result
+add-result : tie.Need-overflow_add-result
 add-result c = rw (sum _ c.ranges.x) (record { sfits = omega (arith, above_below _ c.ranges.x) })
 
-rem-result : tie.Need-nonzero-rem-result
+rem-result : tie.Need-nonzero_rem-result
 rem-result c = rw (sum_held _ c.ranges.x) (omega arith, record { sfits = omega (arith, above_below _ c.ranges.x) })
 
-cast-result-2 : tie.Need-overflow-cast-result-2
+cast-result-2 : tie.Need-overflow_cast-result-2
 cast-result-2 c = search (tt, rest_fits, c.ranges.x)
 
 returns : tie.Need-returns
