@@ -8,7 +8,7 @@ ghost use Rattle.word.specs.Signed.{in_word, signed};
 use word::{minus, plus, to_signed, to_word};
 
 // A result with the arithmetic flags: V overflow, C carry, S sign, Z zero.
-#[derive(Drop)]
+#[derive(Clone, Copy)]
 pub struct Alu {
     pub value: u16,
     pub v: bool,

@@ -7,7 +7,7 @@ use refusal::Refusal;
 pub use validity::{report_fits, validate_image, validate_machine, validate_run};
 
 // Refused, and why; or done, with the number that the call gives, which each call says.
-#[derive(Drop)]
+#[derive(Clone, Copy)]
 pub enum Answer {
     Refused(Refusal),
     Done(u32),

@@ -11,14 +11,14 @@ use refusal::Validity;
 pub use validity::validate_card;
 
 // The tests of a card's call, and the report bytes that its runs need.
-#[derive(Drop)]
+#[derive(Clone, Copy)]
 pub struct CallValidity {
     pub validity: Validity,
     pub needed: usize,
 }
 
 // The state after some commands, and how many report bytes are filled.
-#[derive(Drop)]
+#[derive(Clone, Copy)]
 struct Progress {
     pub state: State,
     pub filled: usize,

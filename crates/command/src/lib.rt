@@ -7,7 +7,7 @@ pub use parser::parse;
 use refusal::Refusal;
 
 // A command of a card, with its operands.
-#[derive(Drop)]
+#[derive(Clone, Copy)]
 pub enum Command {
     // 01: a byte stored at a physical address.
     Byte(u16, u8),
@@ -28,7 +28,7 @@ pub enum Command {
 }
 
 // What stands at a position of a card.
-#[derive(Drop)]
+#[derive(Clone, Copy)]
 pub enum Parsed {
     // Nothing: the card ends there.
     End,

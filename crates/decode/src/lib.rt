@@ -14,7 +14,7 @@ pub use properties::NO_CONDITION;
 pub use table::{Table, entries};
 
 // One of eight operand kinds with its own data, or none.
-#[derive(Drop)]
+#[derive(Clone, Copy)]
 pub enum Operand {
     // The word at a displacement; of a jump, CALL, IN or OUT the displacement itself.
     Direct(u16),
@@ -34,7 +34,7 @@ pub enum Operand {
 }
 
 // Who may use an instruction.
-#[derive(Drop)]
+#[derive(Clone, Copy)]
 pub enum Privilege {
     Anyone,
     // P=1 or I=1.
@@ -44,7 +44,7 @@ pub enum Privilege {
 }
 
 // The data access of an instruction.
-#[derive(Drop)]
+#[derive(Clone, Copy)]
 pub enum DataAccess {
     None,
     // No access: FLAG's value is the source.
@@ -62,7 +62,7 @@ pub enum DataAccess {
 }
 
 // How an instruction goes on.
-#[derive(Drop)]
+#[derive(Clone, Copy)]
 pub enum Flow {
     // At the following instruction.
     Next,
@@ -83,7 +83,7 @@ pub enum Flow {
 }
 
 // A decoded instruction.
-#[derive(Drop)]
+#[derive(Clone, Copy)]
 pub struct Instruction {
     pub code: u8,
     pub rd: u8,
@@ -96,7 +96,7 @@ pub struct Instruction {
 
 // What the first word of a defined instruction says: its number, its mode (8 where it has no operand), its two fields, whether a second word
 // follows, its states, its privilege, its data access and how it goes on.
-#[derive(Drop)]
+#[derive(Clone, Copy)]
 pub struct Shape {
     pub code: u8,
     pub mode: u8,
@@ -109,7 +109,7 @@ pub struct Shape {
     pub flow: Flow,
 }
 
-#[derive(Drop)]
+#[derive(Clone, Copy)]
 pub enum First {
     Undefined,
     Defined(Shape),

@@ -18,7 +18,7 @@ const NO_RIGHT: u8 = 1;
 const ODD_ADDRESS: u8 = 2;
 
 // The record of a fault: the violation address, its cause and the missed page.
-#[derive(Drop)]
+#[derive(Clone, Copy)]
 pub struct FaultRecord {
     pub violation: u16,
     pub cause: u8,
@@ -26,7 +26,7 @@ pub struct FaultRecord {
 }
 
 // What a reader of the record gives, and the record that it leaves.
-#[derive(Drop)]
+#[derive(Clone, Copy)]
 pub struct Readout {
     pub given: FaultRecord,
     pub left: FaultRecord,

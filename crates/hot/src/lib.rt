@@ -9,7 +9,7 @@ pub use flags::upper_flags;
 
 // PC and the arithmetic flags, S and Z being those of a result. `cost` is the states of the last instruction, 0 where it was not carried
 // out; then nothing else has changed.
-#[derive(Drop)]
+#[derive(Clone, Copy)]
 pub struct Hot {
     pub pc: u16,
     pub v: bool,

@@ -7,7 +7,7 @@ ghost use Rattle.input.specs.Input.{ReadAt, ReadTo};
 
 // How many bytes stand at the front of the buffer, and what the last read answered: 0 at the end of the input, -1 if it failed, else how many
 // bytes it filled the buffer up with. It is 0 too if there was no read.
-#[derive(Drop)]
+#[derive(Clone, Copy)]
 pub struct Input {
     pub count: usize,
     pub last: isize,

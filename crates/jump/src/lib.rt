@@ -5,7 +5,7 @@ ghost use Rattle.std.specs.Prelude.{Bool, ◌≡◌, ◌<◌, ◌≤◌};
 ghost use Rattle.jump.specs.Jump as def;
 
 // What a condition says of the flags.
-#[derive(Drop)]
+#[derive(Clone, Copy)]
 pub enum Test {
     Holds,
     Fails,

@@ -19,7 +19,7 @@ use status::Flags;
 use timer::Timers;
 
 // The condition of a machine.
-#[derive(Drop)]
+#[derive(Clone, Copy)]
 pub enum Condition {
     Running,
     Halted,
@@ -27,14 +27,14 @@ pub enum Condition {
 }
 
 // The input byte and the output byte.
-#[derive(Drop)]
+#[derive(Clone, Copy)]
 pub struct Ports {
     pub input: u8,
     pub output: u8,
 }
 
 // The state of a machine, without its memory.
-#[derive(Drop)]
+#[derive(Clone, Copy)]
 pub struct State {
     // G0 to G11 and FP.
     pub regs: [u16; 13],
@@ -55,21 +55,21 @@ pub struct State {
 }
 
 // What a look at the fault record gives, and the state after it.
-#[derive(Drop)]
+#[derive(Clone, Copy)]
 pub struct Looked {
     pub given: FaultRecord,
     pub state: State,
 }
 
 // A plan, and the state with the marks of its accesses.
-#[derive(Drop)]
+#[derive(Clone, Copy)]
 pub struct Planned {
     pub plan: Plan,
     pub state: State,
 }
 
 // What a step did.
-#[derive(Drop)]
+#[derive(Clone, Copy)]
 pub enum Event {
     // An instruction, in this many states.
     Executed(u16),
@@ -80,14 +80,14 @@ pub enum Event {
 }
 
 // The next state and what the step did.
-#[derive(Drop)]
+#[derive(Clone, Copy)]
 pub struct Stepped {
     pub state: State,
     pub event: Event,
 }
 
 // How a run ended.
-#[derive(Drop)]
+#[derive(Clone, Copy)]
 pub enum Ending {
     Spent,
     Entered(u8, u16, u16),
@@ -96,7 +96,7 @@ pub enum Ending {
 }
 
 // The end of a run: the last state, the steps done, their states, and how it ended.
-#[derive(Drop)]
+#[derive(Clone, Copy)]
 pub struct Finished {
     pub state: State,
     pub steps: u16,

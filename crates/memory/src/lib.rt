@@ -7,7 +7,7 @@ ghost use Rattle.memory.specs.Memory as def;
 use word::Width;
 
 // What an instruction stores: nothing, or a value of a width at a physical address.
-#[derive(Drop)]
+#[derive(Clone, Copy)]
 pub enum Store {
     Nothing,
     At(Width, u16, u16),

@@ -9,7 +9,7 @@ mod lookups;
 pub use accesses::try_access;
 
 // What a right is asked for.
-#[derive(Drop)]
+#[derive(Clone, Copy)]
 pub enum Right {
     Read,
     Write,
@@ -17,7 +17,7 @@ pub enum Right {
 }
 
 // Why an access is not granted.
-#[derive(Drop)]
+#[derive(Clone, Copy)]
 pub enum Fault {
     // A word at an odd address.
     Odd,
@@ -28,21 +28,21 @@ pub enum Fault {
 }
 
 // The TLB's answer for a page: no valid entry has it, or the entry of this number serves.
-#[derive(Drop)]
+#[derive(Clone, Copy)]
 pub enum Lookup {
     Missing,
     Entry(usize),
 }
 
 // The answer to an access: the physical address, or why there is none.
-#[derive(Drop)]
+#[derive(Clone, Copy)]
 pub enum Access {
     At(u16),
     Fails(Fault),
 }
 
 // An access, and the TLB with its marks.
-#[derive(Drop)]
+#[derive(Clone, Copy)]
 pub struct Accessed {
     pub access: Access,
     pub tlb: [u32; 8],

@@ -19,7 +19,7 @@ pub const UNDEFINED: u8 = 14;
 pub const SERVICE_CALL: u8 = 15;
 
 // An instruction before its last tests.
-#[derive(Drop)]
+#[derive(Clone, Copy)]
 pub struct Ready {
     pub code: u8,
     pub rd: u8,
@@ -39,7 +39,7 @@ pub struct Ready {
 }
 
 // An instruction of which every test has passed.
-#[derive(Drop)]
+#[derive(Clone, Copy)]
 pub struct Operation {
     pub code: u8,
     pub rd: u8,
@@ -56,7 +56,7 @@ pub struct Operation {
 }
 
 // What a step is going to do.
-#[derive(Drop)]
+#[derive(Clone, Copy)]
 pub enum Plan {
     // Enter by the lowest pending line.
     Interrupt(u8),

@@ -6,7 +6,7 @@ mod tests;
 pub use tests::{and_then, between, good_if, number_of, refused};
 
 // Why a call is refused, in the order of the tests.
-#[derive(Drop)]
+#[derive(Clone, Copy)]
 pub enum Cause {
     // Memory is not 65,536 bytes.
     MemoryLength,
@@ -29,14 +29,14 @@ pub enum Cause {
 }
 
 // A cause, and its place: the position of the first bad command, or 0.
-#[derive(Drop)]
+#[derive(Clone, Copy)]
 pub struct Refusal {
     pub cause: Cause,
     pub place: u16,
 }
 
 // What the tests of a call say.
-#[derive(Drop)]
+#[derive(Clone, Copy)]
 pub enum Validity {
     Good,
     Refused(Refusal),

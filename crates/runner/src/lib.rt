@@ -11,7 +11,7 @@ use machine::State;
 pub use runs::run;
 
 // The end of the loop: how many instructions, and their states.
-#[derive(Drop)]
+#[derive(Clone, Copy)]
 pub struct Stretch {
     pub hot: Hot,
     pub steps: u16,
@@ -19,7 +19,7 @@ pub struct Stretch {
 }
 
 // Where plain instructions have led.
-#[derive(Drop)]
+#[derive(Clone, Copy)]
 pub struct Part {
     pub state: State,
     pub steps: u16,

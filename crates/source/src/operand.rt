@@ -10,7 +10,7 @@ use pages::{NONE, fetch, read};
 use word::{Width, plus, sign_extend, to_word};
 
 // An operand: its value, the address of the following instruction, and the states with ADD.
-#[derive(Drop)]
+#[derive(Clone, Copy)]
 pub struct Source {
     pub value: u32,
     pub next: u16,

@@ -9,7 +9,7 @@ pub use flag::taken;
 pub use pending::without;
 
 // FLAG: E interrupts on, P privileged, I I/O privilege, V overflow, C carry, S sign, Z zero.
-#[derive(Drop)]
+#[derive(Clone, Copy)]
 pub struct Flags {
     pub e: bool,
     pub p: bool,

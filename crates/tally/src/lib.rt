@@ -8,7 +8,7 @@ use command::{Command, Parsed, parse};
 use refusal::{Cause, Refusal, Validity};
 
 // The tests of a card by itself, and the number of its runs.
-#[derive(Drop)]
+#[derive(Clone, Copy)]
 pub struct CardValidity {
     pub validity: Validity,
     pub runs: usize,

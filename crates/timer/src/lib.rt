@@ -5,7 +5,7 @@ mod port;
 mod time;
 
 // A timer: what it has counted, of how many milliseconds, and whether it has fired since that was last read.
-#[derive(Drop)]
+#[derive(Clone, Copy)]
 pub struct Timer {
     pub count: u16,
     pub period: u16,
@@ -15,21 +15,21 @@ pub struct Timer {
 }
 
 // Timer0 and Timer1.
-#[derive(Drop)]
+#[derive(Clone, Copy)]
 pub struct Timers {
     pub timer0: Timer,
     pub timer1: Timer,
 }
 
 // A timer after some milliseconds, and whether its line was raised in them.
-#[derive(Drop)]
+#[derive(Clone, Copy)]
 pub struct Elapsed {
     pub timer: Timer,
     pub raised: bool,
 }
 
 // The timers after some milliseconds, and the lines that were raised in them: bit n is line n.
-#[derive(Drop)]
+#[derive(Clone, Copy)]
 pub struct Passed {
     pub timers: Timers,
     pub lines: u16,

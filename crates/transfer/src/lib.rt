@@ -11,7 +11,7 @@ pub use stores::{store_need, value_stored};
 use word::Width;
 
 // The data access of an instruction: a value that needs none, or the logical address of what is read or written, or of the first of two words.
-#[derive(Drop)]
+#[derive(Clone, Copy)]
 pub enum Need {
     Value(u16),
     Read(Width, u16),
@@ -21,14 +21,14 @@ pub enum Need {
 
 // The data access done: the operand's value, the second word of two, and what is to be stored; or why the access to a logical address is not
 // granted.
-#[derive(Drop)]
+#[derive(Clone, Copy)]
 pub enum Transfer {
     Done(u16, u16, Store),
     Fails(Fault, u16),
 }
 
 // A data access, and the TLB with its marks.
-#[derive(Drop)]
+#[derive(Clone, Copy)]
 pub struct Transferred {
     pub transfer: Transfer,
     pub tlb: [u32; 8],

@@ -20,7 +20,7 @@ use validity::validate;
 
 // What is tried: the label's maximum turns, the notches per turn, and the run-down, the ticks from one notch taken by the train to the next;
 // for how many ticks, and the machine's steps in each.
-#[derive(Drop)]
+#[derive(Clone, Copy)]
 pub struct Settings {
     pub turns: u32,
     pub notches: u32,
@@ -30,7 +30,7 @@ pub struct Settings {
 }
 
 // What a simulation has come to: the ticks done, the notches standing, the first tick over the label or 0, and the machine.
-#[derive(Drop)]
+#[derive(Clone, Copy)]
 pub struct Stage {
     pub tick: u32,
     pub standing: u32,

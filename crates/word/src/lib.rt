@@ -8,7 +8,7 @@ pub use signed::{sign_extend, to_signed, to_word};
 pub use word::{minus, plus};
 
 // What an access is to.
-#[derive(Drop)]
+#[derive(Clone, Copy)]
 pub enum Width {
     Byte,
     Word,
