@@ -1,24 +1,19 @@
 -- `decode::opcode::first_word` meets its contract: by the entry of the word's upper byte.
-use mathlib.Core.Path.{sym, ◌∙◌, ◌≡◌}
-use lib.ListN.{get_or}
+use mathlib.Core.Path.{sym, ◌∙◌}
 use borrow.Author.Tests.{eq-eqb, ne_eqb}
-use Rattle.word.specs.Word.{upper}
-use Rattle.decode.specs.Decode.{first_of, has_second}
-use Rattle.decode.proofs.Fields.{first_by_entry, first_entry}
+use Rattle.decode.specs.Decode.{has_second}
+use Rattle.decode.proofs.Fields.{first_by_entry}
 use Rattle.decode.proofs.opcode.first_word.Goals as goal
 
-by-entry : (c : goal.Start) → first_of c.args.word ≡ first_entry (get_or c.args.table.now (upper c.args.word) 0) c.args.word
-by-entry c = first_by_entry _ _ c.requires c.ranges.word.fits
-
 pub returns-then-entry-eq-UNKNOWN : goal.returns-then-entry-eq-UNKNOWN
-returns-then-entry-eq-UNKNOWN c = sym (by-entry c ∙ rw (eq-eqb _ _ c.if-entry-eq-UNKNOWN.true))
+returns-then-entry-eq-UNKNOWN c = sym (first_by_entry _ _ c.requires c.ranges.word.fits ∙ rw (eq-eqb _ _ c.if-entry-eq-UNKNOWN.true))
 
 pub returns-then-undefined_rd : goal.returns-then-undefined_rd
 returns-then-undefined_rd c =
-    sym (by-entry c ∙ rw (ne_eqb _ _ c.if-entry-eq-UNKNOWN.false, ← c.undefined_rd.ensures, c.if-undefined_rd.true))
+    sym (first_by_entry _ _ c.requires c.ranges.word.fits ∙ rw (ne_eqb _ _ c.if-entry-eq-UNKNOWN.false, ← c.undefined_rd.ensures, c.if-undefined_rd.true))
 
 pub returns : goal.returns
 unfolding has_second
 returns c =
     rw (c.privilege_of.ensures, c.access_of.ensures, c.flow_of.ensures)
-    (sym (by-entry c ∙ rw (ne_eqb _ _ c.if-entry-eq-UNKNOWN.false, ← c.undefined_rd.ensures, c.if-undefined_rd.false)))
+    (sym (first_by_entry _ _ c.requires c.ranges.word.fits ∙ rw (ne_eqb _ _ c.if-entry-eq-UNKNOWN.false, ← c.undefined_rd.ensures, c.if-undefined_rd.false)))

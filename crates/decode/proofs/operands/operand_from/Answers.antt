@@ -1,6 +1,7 @@
 -- `decode::operands::operand_from` meets its contract.
 use mathlib.Core.Path.{ap, ◌∙◌, ◌≡◌}
 use Prim.Native.Nat.{min, ℕ}
+use native.Mathlib.Omega.{arith}
 use mir.Syntax.{w16}
 use mir.ValLaws.{to_z-of_z}
 use borrow.Author.Tests.{ne_eqb}
@@ -14,8 +15,8 @@ use Rattle.decode.proofs.operands.operand_from.Goals as goal
 -- it has its mode's number
 both :
     {r : Operand} (mode rx second : ℕ) → r ≡ operand_of mode rx second
-    → (r ≡ operand_of mode rx second) × (mode_number r ≡ min mode no_operand)
-both mode rx second e = (e, ap mode_number e ∙ mode_number_lem mode rx second)
+    → record { operand : r ≡ operand_of mode rx second; number : mode_number r ≡ min mode no_operand }
+both mode rx second e = record { operand = e; number = ap mode_number e ∙ mode_number_lem mode rx second }
 
 pub returns-in-0 : goal.returns-in-0
 unfolding operand_of
@@ -52,7 +53,7 @@ returns-in-7 c = both _ _ _ (rw c.in-7.is)
 pub returns-in_default : goal.returns-in_default
 unfolding operand_of
 returns-in_default c =
-    let rest = c.in_default.rest in
+    let m = c.args.mode in
     both _ _ _
-    (rw (ne_eqb _ _ rest.0.0.0.0.0.0.0.1, ne_eqb _ _ rest.0.0.0.0.0.0.1, ne_eqb _ _ rest.0.0.0.0.0.1, ne_eqb _ _ rest.0.0.0.0.1)
-    (rw (ne_eqb _ _ rest.0.0.0.1, ne_eqb _ _ rest.0.0.1, ne_eqb _ _ rest.0.1, ne_eqb _ _ rest.1)))
+    (rw (ne_eqb m 0 (omega arith), ne_eqb m 1 (omega arith), ne_eqb m 2 (omega arith), ne_eqb m 3 (omega arith))
+    (rw (ne_eqb m 4 (omega arith), ne_eqb m 5 (omega arith), ne_eqb m 6 (omega arith), ne_eqb m 7 (omega arith))))
