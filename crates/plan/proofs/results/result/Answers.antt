@@ -1,5 +1,6 @@
 -- `plan::results::result` meets its contract.
 use mathlib.Core.Path.{sym, ◌∙◌}
+use native.Mathlib.Omega.{arith}
 use Rattle.plan.specs.Result.{alu_of}
 use Rattle.plan.specs.Beside.{result_beside}
 use Rattle.plan.proofs.results.result.Goals as goal
@@ -49,4 +50,4 @@ unfolding alu_of
 returns-in-19 c = rw c.in-19.is c.shrl.ensures
 
 pub returns-in_default : goal.returns-in_default
-returns-in_default c = c.shl.ensures ∙ sym (result_beside _ _ _ c.in_default.rest)
+returns-in_default c = c.shl.ensures ∙ sym (result_beside c.args.code _ _ (((((((((((tt, omega arith), omega arith), omega arith), omega arith), omega arith), omega arith), omega arith), omega arith), omega arith), omega arith), omega arith))
