@@ -4,7 +4,7 @@ use borrow.Author.Tests.{le-ltb, lt-ltb}
 use Rattle.timer.proofs.Timer.reached.Goals as goal
 
 pub returns-then-self : goal.returns-then-self
-returns-then-self c = (rw (lt-ltb _ _ c.if-self.true), omega arith)
+returns-then-self c = record { reached = rw (lt-ltb _ _ c.if-self.true); bound = omega arith }
 
 pub returns-else-self : goal.returns-else-self
-returns-else-self c = (rw (le-ltb _ _ c.if-self.false), omega arith)
+returns-else-self c = record { reached = rw (le-ltb _ _ c.if-self.false); bound = omega arith }
