@@ -1,0 +1,21 @@
+-- `machine::State::register` meets its contract.
+use native.Mathlib.Omega.{arith}
+use borrow.Author.Tests.{le-ltb, lt-ltb, ne_eqb}
+use Rattle.machine.specs.Register.{reg_in}
+use Rattle.machine.proofs.State.register.Goals as goal
+
+pub returns-in-13 : goal.returns-in-13
+unfolding reg_in
+returns-in-13 c = rw (c.sp.ensures, c.in-13.is)
+
+pub returns-in-14 : goal.returns-in-14
+unfolding reg_in
+returns-in-14 c = rw c.in-14.is
+
+pub returns-in-0-to-12 : goal.returns-in-0-to-12
+unfolding reg_in
+returns-in-0-to-12 c = rw (lt-ltb _ 13 c.if-n-lt13.true)
+
+pub returns-in_default : goal.returns-in_default
+unfolding reg_in
+returns-in_default c = rw (le-ltb _ 13 c.if-n-lt13.false, ne_eqb _ _ (omega arith), ne_eqb _ _ (omega arith))
