@@ -68,21 +68,5 @@ returns-in-14 c = rw c.in-14.is (by_cases 14 64250 refl)
 pub returns-in_default : goal.returns-in_default
 unfolding cases_of condition_of
 returns-in_default c =
-    let r = c.in_default.rest in
-    let b0 = beyond 0 (omega arith) r.0.0.0.0.0.0.0.0.0.0.0.0.0.0.1 in
-    let b1 = beyond 1 b0 r.0.0.0.0.0.0.0.0.0.0.0.0.0.1 in
-    let b2 = beyond 2 b1 r.0.0.0.0.0.0.0.0.0.0.0.0.1 in
-    let b3 = beyond 3 b2 r.0.0.0.0.0.0.0.0.0.0.0.1 in
-    let b4 = beyond 4 b3 r.0.0.0.0.0.0.0.0.0.0.1 in
-    let b5 = beyond 5 b4 r.0.0.0.0.0.0.0.0.0.1 in
-    let b6 = beyond 6 b5 r.0.0.0.0.0.0.0.0.1 in
-    let b7 = beyond 7 b6 r.0.0.0.0.0.0.0.1 in
-    let b8 = beyond 8 b7 r.0.0.0.0.0.0.1 in
-    let b9 = beyond 9 b8 r.0.0.0.0.0.1 in
-    let b10 = beyond 10 b9 r.0.0.0.0.1 in
-    let b11 = beyond 11 b10 r.0.0.0.1 in
-    let b12 = beyond 12 b11 r.0.0.1 in
-    let b13 = beyond 13 b12 r.0.1 in
-    let b14 = beyond 14 b13 r.1 in
-    let e : c.args.n ≡ 15 = omega (arith, b14, c.requires) in
+    let e : c.args.n ≡ 15 = omega (arith, c.requires) in
     rw e (by_cases 15 65535 refl)

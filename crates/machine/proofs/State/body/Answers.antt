@@ -1,4 +1,5 @@
 -- `machine::State::body` meets its contract.
+use native.Mathlib.Omega.{arith}
 use Rattle.decode.specs.Code.{ADD, SHRL}
 use Rattle.machine.specs.Execute.{body_of}
 use Rattle.machine.proofs.Cases.{over, under, within}
@@ -58,16 +59,16 @@ returns-in-31 c = rw c.in-31.is c.set_condition.ensures
 pub returns-in-3-to-19 : goal.returns-in-3-to-19
 returns-in-3-to-19 c =
     let given = c.args in
-    let between = within ADD SHRL _ c.if-code-lt3.false c.if-code-lt20.true in
-    rw (body_beside given.self given.op c.in_default-1.rest, between, ← c.result-r.ensures)
+    let between = within ADD SHRL given.op.code (omega arith) (omega arith) in
+    rw (body_beside given.self given.op (((((((((((tt, omega arith), omega arith), omega arith), omega arith), omega arith), omega arith), omega arith), omega arith), omega arith), omega arith), omega arith), between, ← c.result-r.ensures)
     (rw (c.set_register-in-3-to-19.ensures, c.set_flags-in-3-to-19.ensures))
 
 pub returns-in_default : goal.returns-in_default
 returns-in_default c =
     let given = c.args in
-    rw (body_beside given.self given.op c.in_default-1.rest, under ADD SHRL _ c.if-code-lt3.true)
+    rw (body_beside given.self given.op (((((((((((tt, omega arith), omega arith), omega arith), omega arith), omega arith), omega arith), omega arith), omega arith), omega arith), omega arith), omega arith), under ADD SHRL given.op.code (omega arith))
 
 pub returns-in_default-2 : goal.returns-in_default-2
 returns-in_default-2 c =
     let given = c.args in
-    rw (body_beside given.self given.op c.in_default-1.rest, over ADD SHRL _ c.if-code-lt20.false)
+    rw (body_beside given.self given.op (((((((((((tt, omega arith), omega arith), omega arith), omega arith), omega arith), omega arith), omega arith), omega arith), omega arith), omega arith), omega arith), over ADD SHRL given.op.code (omega arith))

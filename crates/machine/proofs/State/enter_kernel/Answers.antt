@@ -6,11 +6,11 @@ use Rattle.machine.proofs.State.enter_kernel.Goals as goal
 
 pub returns-then-self-eq1 : goal.returns-then-self-eq1
 unfolding enter_of
-returns-then-self-eq1 c = rw (eq-eqb _ _ c.if-self-eq1.true) (c.set_condition.ensures, (refl, refl))
+returns-then-self-eq1 c = rw (eq-eqb _ _ c.if-self-eq1.true) (record { state = c.set_condition.ensures; event = refl; memory = refl })
 
 pub returns : goal.returns
 unfolding enter_of
 returns c =
     rw (ne_eqb _ _ c.if-self-eq1.false, ← c.word-flag.ensures, ← c.push.ensures)
     (rw (← c.plus.ensures, ← c.word_at-handler.ensures)
-    (rw (c.in_kernel.ensures, c.set_pending.ensures), (refl, refl)))
+    (record { state = rw (c.in_kernel.ensures, c.set_pending.ensures); event = refl; memory = refl }))

@@ -17,14 +17,14 @@ returns-in-162 c = rw (c.port_out-written.ensures, c.in-162.is, div-one c.args.v
 pub returns-in-128-to-158 : goal.returns-in-128-to-158
 unfolding output_after mmu_after
 returns-in-128-to-158 c =
-    rw (ne_eqb _ _ (omega arith), ne_eqb _ _ (omega arith), c.write_entry-tlb.ensures, c.port_out-written.ensures)
+    rw (ne_eqb c.args.port 24 (omega arith), ne_eqb c.args.port 162 (omega arith), c.write_entry-tlb.ensures, c.port_out-written.ensures)
 
 pub returns-in_default : goal.returns-in_default
 unfolding output_after mmu_after tlb_after
 returns-in_default c =
-    rw (ne_eqb _ _ (omega arith), ne_eqb _ _ (omega arith), tlb_below c.if-port-lt128.true, c.port_out-written.ensures)
+    rw (ne_eqb c.args.port 24 (omega arith), ne_eqb c.args.port 162 (omega arith), tlb_below {port = c.args.port} (omega arith), c.port_out-written.ensures)
 
 pub returns-in_default-2 : goal.returns-in_default-2
 unfolding output_after mmu_after tlb_after
 returns-in_default-2 c =
-    rw (ne_eqb _ _ (omega arith), ne_eqb _ _ (omega arith), tlb_above c.if-port-lt159.false, c.port_out-written.ensures)
+    rw (ne_eqb c.args.port 24 (omega arith), ne_eqb c.args.port 162 (omega arith), tlb_above {port = c.args.port} (omega arith), c.port_out-written.ensures)

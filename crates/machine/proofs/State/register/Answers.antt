@@ -14,8 +14,8 @@ returns-in-14 c = rw c.in-14.is
 
 pub returns-in-0-to-12 : goal.returns-in-0-to-12
 unfolding reg_in
-returns-in-0-to-12 c = rw (lt-ltb _ 13 c.if-n-lt13.true)
+returns-in-0-to-12 c = rw (lt-ltb c.args.n 13 (omega arith))
 
 pub returns-in_default : goal.returns-in_default
 unfolding reg_in
-returns-in_default c = rw (le-ltb _ 13 c.if-n-lt13.false, ne_eqb _ _ (omega arith), ne_eqb _ _ (omega arith))
+returns-in_default c = rw (le-ltb c.args.n 13 (omega arith), ne_eqb c.args.n 13 (omega arith), ne_eqb c.args.n 14 (omega arith))
