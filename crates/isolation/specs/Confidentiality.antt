@@ -69,6 +69,7 @@ or_right a b e = rw e (or-true a)
 
 seen : (tlb : List ℕ) (frame : ℕ) (right : Right) → Sees right → has_right tlb right frame ≡ true → visible tlb frame ≡ true
 seen tlb frame Read s h = or_left (has_right tlb Read frame) (has_right tlb Execute frame) h
+seen tlb frame Write s h = elim s [ ]
 seen tlb frame Execute s h = or_right (has_right tlb Read frame) (has_right tlb Execute frame) h
 
 module _ (m m' : List ℕ) where

@@ -30,18 +30,23 @@ unfolding run_from through_from
 on true left st st' m m' k t n c e = rw (e, c)
 on false left st st' m m' k t n c e = rw (e, c)
 
-pub goes_run :
-    (through : Bool) {st st' : State} {m m' : List ℕ} {steps states : ℕ} → Goes st m steps states st' m' → (left k t : ℕ)
+goes_run_from :
+    (through : Bool) {st : State} {m : List ℕ} {steps states : ℕ} {st' : State} {m' : List ℕ} → Goes st m steps states st' m' → (left k t : ℕ)
     → go_from through (left + steps) st m k t ≡ go_from through left st' m' (k + steps) (t + states)
-goes_run through none left k t = rw (add-zero left, add-zero k, add-zero t)
-goes_run through {st} {m} (more {steps} {states} {n} {st'} {st''} {m'} {m''} g c e) left k t =
+goes_run_from through none left k t = rw (add-zero left, add-zero k, add-zero t)
+goes_run_from through {st = st} {m = m} (more {steps} {states} {n} {st'} {st''} {m'} {m''} g c e) left k t =
     let a : left + (steps + 1) ≡ suc left + steps = omega arith in
     let x : k + steps + 1 ≡ k + (steps + 1) = omega arith in
     let y : t + states + n ≡ t + (states + n) = omega arith in
     ap (λ (q : ℕ). go_from through q st m k t) a
-    ∙ goes_run through g (suc left) k t
+    ∙ goes_run_from through g (suc left) k t
     ∙ on through left st' st'' m' m'' (k + steps) (t + states) n c e
     ∙ rw (x, y)
+
+pub goes_run :
+    (through : Bool) {st st' : State} {m m' : List ℕ} {steps states : ℕ} → Goes st m steps states st' m' → (left k t : ℕ)
+    → go_from through (left + steps) st m k t ≡ go_from through left st' m' (k + steps) (t + states)
+goes_run through g left k t = goes_run_from through g left k t
 
 -- ---- the loop
 

@@ -9,11 +9,8 @@ use Rattle.runner.proofs.ahead.ahead.Goals as goal
 pub offset_bounds-maps-on : goal.offset_bounds-maps-on
 offset_bounds-maps-on c = omega (arith, bit_below c.translates-on.result)
 
-index-1-stretch : tie.Need-bounds-1-stretch
-index-1-stretch c =
-    let fitted = c.before.before in
-    let tested = fitted.before.before.before in
-    omega (arith, bit_below tested.before.translates.result, fitted.fit.auto.1.0, tested.if3.true)
+pub bounds-maps-on : goal.bounds-maps-on
+bounds-maps-on c = omega (arith, bit_below c.translates-on.result, c.fit.auto.maps, c.if-maps-eq-MAPS.true)
 
 pub stretch-requires : goal.stretch-requires
 stretch-requires c =
@@ -21,8 +18,8 @@ stretch-requires c =
       c.requires.0,
       c.ready.ensures c.if-ready.true,
       rw (← asked.ensures)
-          (kept_mapped asked.result c.args.state.tlb c.fit.new.1.1.0 c.fit.new.1.0
-          (c.fit.auto.1.0 ∙ c.if-maps-eq-MAPS.true) c.fit.ensures.kept (λ e. c.fit.ensures.fits (sym asked.ensures ∙ e))),
+          (kept_mapped asked.result c.args.state.tlb c.fit.new.origin c.fit.new.maps
+          (c.fit.auto.maps ∙ c.if-maps-eq-MAPS.true) c.fit.ensures.kept (λ e. c.fit.ensures.fits (sym asked.ensures ∙ e))),
     )
 
 pub stretch-requires-then-ready : goal.stretch-requires-then-ready
@@ -33,9 +30,7 @@ stretch-requires-then-ready c = (
 )
 
 pub returns-else-ready : goal.returns-else-ready
-returns-else-ready c = let p = (none, ((omega arith, omega arith), c.requires.1)) in
-    record { goes = p.0; bounds = p.1; kept = p.2 }
+returns-else-ready c = record { goes = none; bounds = (omega arith, omega arith); kept = c.requires.1 }
 
 pub returns-else-allowance-ne0 : goal.returns-else-allowance-ne0
-returns-else-allowance-ne0 c = let p = (none, ((omega arith, omega arith), c.requires.1)) in
-    record { goes = p.0; bounds = p.1; kept = p.2 }
+returns-else-allowance-ne0 c = record { goes = none; bounds = (omega arith, omega arith); kept = c.requires.1 }

@@ -15,12 +15,11 @@ calm_apart false false z e q = (refl, refl, q)
 
 pub returns-in-Running : goal.returns-in-Running
 returns-in-Running c e =
-    let found = c.before.before.before.before in
-    let state = found.before.before.args.state in
-    let calm = calm_apart found.interrupted.result state.flags.s state.flags.z (eqb (state.pc % 2) 0) e in
+    let state = c.args.state in
+    let calm = calm_apart c.interrupted.result state.flags.s state.flags.z (eqb (state.pc % 2) 0) e in
     record {
-      running = c.enum_told.given.1;
-      calm = sym found.interrupted.ensures ∙ calm.0;
+      running = c.in-Running.is;
+      calm = sym c.interrupted.ensures ∙ calm.0;
       apart = calm.1;
       even = eqb-true (state.pc % 2) 0 calm.2;
     }

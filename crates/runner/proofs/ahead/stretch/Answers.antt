@@ -3,11 +3,9 @@ use Rattle.runner.proofs.ahead.stretch.Goals as goal
 
 pub returns : goal.returns
 returns c =
-    let p = let quick' = c.quick-q in
-    let upper' = c.upper_flags in
     let flags = c.result_of.ensures c.requires.1.apart in
-    let g = quick'.ensures.0.goes c.args.state c.requires.1 c.requires.2 upper'.ensures.0 in (
-      rw c.gather.ensures (rw (flags.0, flags.1, c.spread-regs.ensures) at g),
-      (quick'.ensures.1.0, quick'.ensures.1.1),
-    ) in
-    record { goes = p.0; bounds = p.1 }
+    let g = c.quick-q.ensures.leads.goes c.args.state c.requires.1 c.requires.2 c.upper_flags.ensures.0 in
+    record {
+      goes = rw c.gather.ensures (rw (flags.0, flags.1, c.spread-regs.ensures) at g);
+      bounds = (c.quick-q.ensures.bounds.0, c.quick-q.ensures.bounds.1);
+    }
