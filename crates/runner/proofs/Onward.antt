@@ -23,13 +23,11 @@ use Rattle.runner.specs.Goes.{Goes, goes_run}
 
 -- an event that is no entry
 unentered :
-    (through : Bool) (x : Event) → OneOf (0 ∷ 2 ∷ 3 ∷ []) (tag_of Event'.the_type x) → (st : State) (m : List ℕ) (n t : ℕ) (rest : Ran)
+    (through : Bool) (x : Event) → ((number pc flag : ℕ) → x ≡ event.Entered number pc flag → ⊥) → (st : State) (m : List ℕ) (n t : ℕ) (rest : Ran)
     → after_event through x st m n t rest ≡ rest
 unentered true x k st m n t rest = refl
 unentered false (event.Executed cost) k st m n t rest = refl
-unentered false (event.Entered number pc flag) (inl e) st m n t rest = absurd (omega arith)
-unentered false (event.Entered number pc flag) (inr (inl e)) st m n t rest = absurd (omega arith)
-unentered false (event.Entered number pc flag) (inr (inr e)) st m n t rest = absurd (omega arith)
+unentered false (event.Entered number pc flag) k st m n t rest = absurd (k number pc flag refl)
 unentered false event.Halted k st m n t rest = refl
 unentered false event.Lost k st m n t rest = refl
 
@@ -50,7 +48,7 @@ module _ {through : Bool} {allowance : ℕ} {st₀ : State} {m₀ : List ℕ} {s
   -- a step of the machine whose event is no entry
   pub goes_unentered :
       (at : Reached through allowance st₀ m₀ st m n t) {s : Stepped} {m' : List ℕ} {k : ℕ} → st.condition ≡ Running → (n ≡ allowance → ⊥)
-      → (s ≡ answer (step_of st m)) × (m' ≡ (step_of st m).memory) → k ≡ states_of s.event → OneOf (0 ∷ 2 ∷ 3 ∷ []) (tag_of Event'.the_type s.event)
+      → (s ≡ answer (step_of st m)) × (m' ≡ (step_of st m).memory) → k ≡ states_of s.event → ((number pc flag : ℕ) → s.event ≡ event.Entered number pc flag → ⊥)
       → length m' ≡ length m → k ≤ 65535 → Reached through allowance st₀ m₀ s.state m' (n + 1) (t + k)
   goes_unentered at {s} {m'} {k} running more step cost none =
       goes_on at running more step cost
