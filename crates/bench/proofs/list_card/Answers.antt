@@ -1,6 +1,6 @@
 -- The listing is what `written` says, of what the calls say.
 use Rattle.std.proofs.Common.{ap}
-use Rattle.bench.specs.Laws.{written}
+use Rattle.bench.proofs.Laws.{written}
 use Rattle.card.specs.declared.CallValidity.{CallValidity}
 use Rattle.bench.proofs.list_card.Goals as goal
 
