@@ -27,14 +27,14 @@ fn list_card(card: &[u8], text: &mut [u8]) -> usize
 }
 
 // A card has at most 4,096 bytes; one more is enough to refuse it.
-fn main() {
+fn main(rt: HostRuntime) {
     let mut card = [0u8; 4097];
-    let input = input::read_input(&mut card);
+    let input = input::read_input(&mut rt.stdin(), &mut card);
     if !input.complete() {
         return;
     }
     let count = input.count;
     let mut text = [0u8; 65536];
     let written = list_card(&card[..count], &mut text);
-    io::write_all(libc::STDOUT_FILENO, &text[..written]);
+    let _ = rt.write_all(&text[..written]);
 }

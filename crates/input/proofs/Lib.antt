@@ -1,1 +1,1 @@
-pub mod Turns
+mod Turns

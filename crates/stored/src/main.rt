@@ -16,7 +16,15 @@ fn least(a: usize, b: usize) -> usize
 }
 
 // The listing of one case. Answers whether it was written.
-fn list_case(card: &[u8], lacks: usize, absent: usize, high: u8, low: u8, room: usize) -> bool
+fn list_case(
+    rt: &impl Print,
+    card: &[u8],
+    lacks: usize,
+    absent: usize,
+    high: u8,
+    low: u8,
+    room: usize,
+) -> bool
     requires { (lacks ≤ 65535) × (absent ≤ image_size) × (room ≤ 16380) }
 {
     let mut memory = [0u8; 65536];
@@ -36,11 +44,11 @@ fn list_case(card: &[u8], lacks: usize, absent: usize, high: u8, low: u8, room: 
         &mut report[..room],
     );
     let written = listing::write_listing(validity, filled, &mut text);
-    io::write_all(libc::STDOUT_FILENO, &text[..written])
+    rt.write_all(&text[..written]).is_ok()
 }
 
 // The case at `at`. Answers where the next one stands, or 0 if the listing was not written.
-fn run_case(cases: &[u8], at: usize) -> usize
+fn run_case(rt: &impl Print, cases: &[u8], at: usize) -> usize
     requires { at + 9 ≤ length cases.now }
     ensures { result ≤ length cases.now }
 {
@@ -55,17 +63,17 @@ fn run_case(cases: &[u8], at: usize) -> usize
         );
     let high = cases[at + 3];
     let low = cases[at + 4];
-    if list_case(&cases[start..end], lacks, absent, high, low, room) {
+    if list_case(rt, &cases[start..end], lacks, absent, high, low, room) {
         end
     } else {
         0
     }
 }
 
-fn run_all(cases: &[u8]) {
+fn run_all(rt: &impl Print, cases: &[u8]) {
     let mut at = 0;
     while 9 <= cases.len() - at {
-        let next = run_case(cases, at);
+        let next = run_case(rt, cases, at);
         if next <= at {
             return;
         }
@@ -73,12 +81,12 @@ fn run_all(cases: &[u8]) {
     }
 }
 
-fn main() {
+fn main(rt: HostRuntime) {
     let mut cases = [0u8; 65536];
-    let input = input::read_input(&mut cases);
+    let input = input::read_input(&mut rt.stdin(), &mut cases);
     if !input.complete() {
         return;
     }
     let count = input.count;
-    run_all(&cases[..count]);
+    run_all(&rt, &cases[..count]);
 }
