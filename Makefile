@@ -19,8 +19,8 @@ $(out)/programs/%.o: programs/%.c $(headers) Makefile
 	$(CC) $(CPPFLAGS) $(CFLAGS) -I include -I programs/common -c -o $@ $<
 
 # It is proved first, which takes minutes.
-$(library): $(shell find crates crates.txt -type f)
-	rt staticlib tac
+$(library): $(shell find crates crates.txt -name out -prune -o -type f -print)
+	tools/library
 
 clean:
 	rm -rf $(out)/programs $(programs)

@@ -11,6 +11,8 @@ lib=target/staticlib/libtac.a
 cc=${CC:-cc}
 rm -rf "$out"
 mkdir -p "$out/got" "$out/files"
+# There are links among the files, and a crates.txt, which rt takes at the top of a checkout alone.
+trap 'cd "$root" && rm -rf "$out/files"' EXIT
 cd "$root"
 
 # fail MESSAGE: ends the check; in a pipeline only a part of it, and `passed` ends it then.
