@@ -8,8 +8,8 @@
  *
  * Null pointers: a pointer may be null where its length is 0. Nothing is read or written through it, and the call answers as for any other
  * buffer of no bytes: memory gives refusal 1, the image 2, the report 8 unless it is that of a card without runs, the places 9; a card is
- * the empty one and records are the empty run, which are good. A null pointer with another length is the caller's error. This is tested on the built library and not
- * proved.
+ * the empty one and records are the empty run, which are good. A null pointer with another length is the caller's error. This is tested on
+ * the built library and not proved.
  *
  * A call keeps nothing for later calls, uses its buffers and some kilobytes of stack, and calls nothing but memcpy and memset, which the
  * program has to have. Calls on separate buffers may run at the same time. Every call ends: a run after at most TAC_ALLOWANCE steps, a card
