@@ -1,15 +1,11 @@
 -- What plain instructions add to a run, and a step by the test for an entry that the code makes.
 -- Assumes nothing.
 use mathlib.Core.Bool.{Bool, false, true}
-use mathlib.Core.List.{List, [], ◌∷◌}
-use mathlib.Core.Logic.{inl, inr}
+use mathlib.Core.List.{List}
 use mathlib.Core.Path.{ap, refl, ◌∙◌, ◌≡◌}
 use Prim.Native.Nat.{ℕ, ◌*◌, ◌+◌, ◌-◌, ◌≤◌}
 use native.Mathlib.Omega.{arith}
-use denote.Enum.Declared.{tag_of}
 use lib.ListN.{length}
-use types.Run.{OneOf}
-use Rattle.machine.specs.contracts.Event as Event'
 use Rattle.machine.proofs.Turn.{Reached, after_event, goes_on}
 use Rattle.machine.specs.Answers.{states_of}
 use Rattle.machine.specs.Run.{Ran, go_from}

@@ -1,7 +1,7 @@
 -- `hot::flags::holds` meets its contract.
 use mathlib.Core.Path.{refl, ◌≡◌}
 use native.Mathlib.Omega.{arith}
-use Rattle.hot.specs.Conditions.{beyond, by_cases, cases_of}
+use Rattle.hot.specs.Conditions.{by_cases, cases_of}
 use Rattle.jump.specs.Jump.{condition_of}
 use Rattle.hot.proofs.flags.holds.Goals as goal
 

@@ -1,5 +1,4 @@
 -- `machine::State::commit` meets its contract.
-use mathlib.Core.Logic.{⊎_elim}
 use mathlib.Core.Path.{◌≡◌}
 use Rattle.machine.specs.Enter.{enter_of}
 use Rattle.machine.specs.Step.{commit}

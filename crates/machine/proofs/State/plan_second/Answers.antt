@@ -1,7 +1,4 @@
 -- `machine::State::plan_second` meets its contract.
-use mathlib.Core.Logic.{⊎_elim}
-use mathlib.Core.Path.{◌≡◌}
-use Rattle.decode.specs.Decode.{instruction_of}
 use Rattle.machine.specs.Plan.{plan_operand, plan_second}
 use Rattle.machine.proofs.State.plan_second.Goals as goal
 use Rattle.machine.proofs.State.plan_second.Goals.{then-shape+in-At, else-shape}

@@ -1,10 +1,8 @@
 -- `runner::quick::quick` meets its contract.
-use mathlib.Core.Logic.{⊎_elim}
-use mathlib.Core.Path.{sym, ◌∙◌, ◌≡◌}
+use mathlib.Core.Path.{◌∙◌, ◌≡◌}
 use Prim.Native.Nat.{◌+◌, ◌-◌}
 use native.Mathlib.Omega.{arith}
-use lib.ListN.{length}
-use Rattle.runner.specs.Goes.{Leads, no_more, no_step, one_more}
+use Rattle.runner.specs.Goes.{no_more, no_step, one_more}
 use Rattle.hot.specs.Tells.{Told, evened, plain, sized, small}
 use Rattle.runner.proofs.quick.quick.Goals as goal
 use Rattle.runner.proofs.quick.quick.Goals.{else-byte-lt-HIGH, else-loop-left-test, then-byte-lt-HIGH, then-loop-left-test+else-w-ge-NONE+then-hot-eq0, then-loop-left-test+then-w-ge-NONE}
