@@ -28,7 +28,7 @@ extern "C" {
 
 /* The version of this interface. MAJOR goes up where a caller has to change, as for another size of the image; MINOR with a new call. */
 #define TAC_VERSION_MAJOR 2
-#define TAC_VERSION_MINOR 2
+#define TAC_VERSION_MINOR 1
 
 #define TAC_MEMORY_BYTES 65536
 #define TAC_IMAGE_BYTES 84

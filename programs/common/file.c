@@ -34,15 +34,6 @@ static bool end_reading(FILE *file, const char *name, char *why)
     return read || because_of(error, name, why);
 }
 
-bool read_file(const char *name, bool (*read)(FILE *file, void *what, char *why), void *what, char *why)
-{
-    FILE *file = open_named(name, "rb", why);
-    if (file == NULL)
-        return false;
-    bool good = read(file, what, why);
-    return end_reading(file, name, why) && good;
-}
-
 /* The first `room` bytes of a file. */
 static bool read_bytes(const char *name, uint8_t *bytes, size_t room, size_t *length, char *why)
 {

@@ -23,9 +23,6 @@ bool ends_in(const char *name, const char *ending);
 /* Whether two names are those of one file. One that is not there is known by its folder and its name in it. */
 bool same_file(const char *one, const char *other);
 
-/* What `read` reads of a file to `what`; it answers false, with a `why`, where the file has a mistake. */
-bool read_file(const char *name, bool (*read)(FILE *file, void *what, char *why), void *what, char *why);
-
 /* Bare words, to memory from a physical address on. The name of a card or a machine is none of words. */
 bool load_words(const char *name, unsigned address, struct machine *machine, char *why);
 

@@ -40,7 +40,6 @@ const char *refusal_words(unsigned refusal)
         "an operand is beyond its values",
         "the report is too short",
         "a setting of the winder is beyond its values, or there are fewer places than ticks",
-        "the width of a window is 0 or above 4,096",
     };
     return refusal < sizeof words / sizeof *words ? words[refusal] : "unknown";
 }

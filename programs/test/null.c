@@ -4,12 +4,11 @@
 #include <stdio.h>
 #include <string.h>
 
-enum { RUN, CARD, VIEW, FAULT, WIND, BUSIEST, CALLS };
-enum { MEMORY = 1, IMAGE = 2, CARD_BYTES = 4, REPORT = 8, PLACES = 16, RECORDS = 32, ALL = 64 };
+enum { RUN, CARD, VIEW, FAULT, WIND, CALLS };
+enum { MEMORY = 1, IMAGE = 2, CARD_BYTES = 4, REPORT = 8, PLACES = 16, ALL = 32 };
 
 struct buffers {
     uint8_t memory[TAC_MEMORY_BYTES], image[TAC_IMAGE_BYTES], card[3], report[TAC_REPORT_BYTES], places[2 * TAC_WIND_PLACE_BYTES];
-    uint8_t records[3];
 };
 
 static uint8_t nothing[1];
@@ -20,10 +19,10 @@ static uint64_t call(int which, struct buffers *lent, int empty, int null)
     uint8_t *none = null ? NULL : nothing;
     uint8_t *memory = empty & MEMORY ? none : lent->memory, *image = empty & IMAGE ? none : lent->image;
     uint8_t *card = empty & CARD_BYTES ? none : lent->card, *report = empty & REPORT ? none : lent->report;
-    uint8_t *places = empty & PLACES ? none : lent->places, *records = empty & RECORDS ? none : lent->records;
+    uint8_t *places = empty & PLACES ? none : lent->places;
     size_t memory_len = empty & MEMORY ? 0 : sizeof lent->memory, image_len = empty & IMAGE ? 0 : sizeof lent->image;
     size_t card_len = empty & CARD_BYTES ? 0 : sizeof lent->card, report_len = empty & REPORT ? 0 : sizeof lent->report;
-    size_t places_len = empty & PLACES ? 0 : sizeof lent->places, records_len = empty & RECORDS ? 0 : sizeof lent->records;
+    size_t places_len = empty & PLACES ? 0 : sizeof lent->places;
     if (which == RUN)
         return tac_run(memory, memory_len, image, image_len, 3, report, report_len);
     if (which == CARD)
@@ -32,8 +31,6 @@ static uint64_t call(int which, struct buffers *lent, int empty, int null)
         return tac_view(memory, memory_len, image, image_len, report, report_len);
     if (which == FAULT)
         return tac_fault(image, image_len);
-    if (which == BUSIEST)
-        return tac_busiest(records, records_len, 2);
     return tac_wind(memory, memory_len, image, image_len, 1, 1, 2, 2, 3, places, places_len);
 }
 
@@ -41,8 +38,6 @@ static uint64_t call(int which, struct buffers *lent, int empty, int null)
 static uint64_t expected(int which, int empty)
 {
     int runs = which != CARD || (empty & CARD_BYTES) == 0;
-    if (which == BUSIEST)
-        return empty & RECORDS ? 0 : 2;
     if ((empty & MEMORY) && which != FAULT)
         return (uint64_t)TAC_MEMORY_LENGTH << 32;
     if (empty & IMAGE)
@@ -63,7 +58,6 @@ static void fill(struct buffers *lent)
     memset(lent, 0, sizeof *lent);
     memset(lent->report, 0x5A, sizeof lent->report);
     memset(lent->places, 0x5A, sizeof lent->places);
-    memset(lent->records, TAC_RECORD_ON, sizeof lent->records);
     memcpy(lent->card, run, sizeof run);
     lent->image[TAC_IMAGE_FLAG + 1] = TAC_FLAG_P;
     memcpy(lent->image + TAC_IMAGE_VIOLATION, record, sizeof record);

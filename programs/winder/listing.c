@@ -2,12 +2,6 @@
 
 static const char *notches(uint32_t count) { return count == 1 ? "notch" : "notches"; }
 
-static void print_stretch(const struct stretch *stretch)
-{
-    write_stretch(stdout, stretch);
-    putchar('\n');
-}
-
 static void print_settings(const struct winding *winding)
 {
     const struct settings *settings = &winding->settings;
@@ -56,8 +50,6 @@ void print_listing(const struct outcome *outcome)
     print_input(outcome->origin);
     printf("wound: %lu %s\n", (unsigned long)summary.wound, notches(summary.wound));
     printf("taken: %lu %s\n", (unsigned long)summary.taken, notches(summary.taken));
-    if (outcome->stretch != NULL)
-        print_stretch(outcome->stretch);
     printf("most standing: %lu %s", (unsigned long)summary.most, notches(summary.most));
     if (summary.most_at != 0)
         printf(", after tick %lu", (unsigned long)summary.most_at);
@@ -69,15 +61,6 @@ void print_listing(const struct outcome *outcome)
     print_condition(winding);
     if (!winding->checked)
         printf("not checked beside tac_wind: stopped\n");
-}
-
-void print_records(const char *file, const struct stretch *stretch)
-{
-    printf("records: ");
-    print_name(file);
-    printf("\nticks: %lu\n", (unsigned long)stretch->ticks);
-    printf("motor on: %lu %s\n", (unsigned long)stretch->on, stretch->on == 1 ? "tick" : "ticks");
-    print_stretch(stretch);
 }
 
 void write_csv(FILE *file, const void *what)

@@ -1,9 +1,8 @@
-/* What a simulation, or records, came to, in lines: a listing, and a table of the ticks of a simulation. */
+/* What a simulation came to, in lines: a listing, and a table of its ticks. */
 #ifndef WINDER_LISTING_H
 #define WINDER_LISTING_H
 
 #include "origin.h"
-#include "stretch.h"
 #include "ticks.h"
 
 #include <stdio.h>
@@ -12,14 +11,10 @@
 struct outcome {
     const struct origin *origin;
     const struct winding *winding;
-    const struct stretch *stretch; /* the busiest, or NULL where it is not asked for */
 };
 
 /* A fact a line, its name and its value. */
 void print_listing(const struct outcome *outcome);
-
-/* The same of records from a file. */
-void print_records(const char *file, const struct stretch *stretch);
 
 /* The first tick over the label, or that there is none: whether the label was reached, and how many stood where it was not. */
 void write_verdict(FILE *file, const struct winding *winding, const struct summary *summary);

@@ -1,7 +1,7 @@
-/* tac-winder: simulates a winder with a machine, and holds it against the label; or finds the busiest stretch of records.
+/* tac-winder: simulates a winder with a machine, and holds it against the label.
  *
- * Exit status: 0 where the label was not passed, or there is none, 1 where it was, 2 with a line on standard error where an option or a
- * file is bad or a file can't be read or written, 130 where it was stopped and the label was not passed so far. */
+ * Exit status: 0 where the label was not passed, 1 where it was, 2 with a line on standard error where an option or a file is bad or a file
+ * can't be read or written, 130 where it was stopped and the label was not passed so far. */
 #define _POSIX_C_SOURCE 200809L
 
 #include "file.h"
@@ -10,13 +10,11 @@
 #include "options.h"
 #include "picture.h"
 #include "plot.h"
-#include "records.h"
 #include "simulation.h"
 #include "status.h"
 #include "vary.h"
 
 #include <stdio.h>
-#include <stdlib.h>
 #include <unistd.h>
 
 const char program_name[] = "tac-winder";
@@ -73,7 +71,7 @@ static void print_all(const struct outcome *outcome, const struct options *optio
     else
         print_listing(outcome);
     if (!csv && !svg && wants_plot(options))
-        print_plot(outcome->winding, outcome->stretch, terminal_columns(), terminal_colour());
+        print_plot(outcome->winding, terminal_columns(), terminal_colour());
     end_output();
 }
 
@@ -89,46 +87,20 @@ static void write_all(const struct outcome *outcome, const struct options *optio
         fail("%s", why);
 }
 
-/* The busiest stretch of the ticks done. */
-static struct stretch stretch_of(const struct winding *winding, uint32_t width)
-{
-    static uint8_t records[TAC_WIND_TICKS];
-    winding_records(winding, records);
-    return busiest_stretch(records, winding->done, width);
-}
-
 /* Simulates one setting. Answers the exit status. */
 static int simulate_one(struct machine *machine, const struct origin *origin, const struct options *options)
 {
     static struct winding winding;
     struct settings settings = settings_of(options);
-    struct stretch stretch;
-    struct outcome outcome = {origin, &winding, NULL};
+    struct outcome outcome = {origin, &winding};
     if (origin->has_input)
         machine->image[TAC_IMAGE_INPUT] = (uint8_t)origin->input.first;
     simulate(&winding, machine, &settings);
-    if (options->words[NUMBER_WIDTH] != NULL) {
-        stretch = stretch_of(&winding, options->numbers[NUMBER_WIDTH].first);
-        outcome.stretch = &stretch;
-    }
     print_all(&outcome, options);
     write_all(&outcome, options);
     if (winding.first_over != 0)
         return STATUS_PASSED;
     return winding.done < settings.ticks || !winding.checked ? STATUS_STOPPED : STATUS_HELD;
-}
-
-/* Lists the busiest stretch of records from a file. */
-static void list_records(const char *name, uint32_t width)
-{
-    struct records records;
-    char why[WHY_BYTES];
-    if (!read_records(name, &records, why))
-        fail("%s", why);
-    struct stretch stretch = busiest_stretch(records.bytes, records.length, width);
-    free(records.bytes);
-    print_records(name, &stretch);
-    end_output();
 }
 
 int main(int argc, char **argv)
@@ -138,10 +110,6 @@ int main(int argc, char **argv)
     if (!take_options(&options, argc, argv)) {
         print_help();
         end_output();
-        return 0;
-    }
-    if (options.records != NULL) {
-        list_records(options.records, options.numbers[NUMBER_WIDTH].first);
         return 0;
     }
     begin(&machine, &options);

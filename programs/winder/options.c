@@ -8,26 +8,22 @@
 #include <stdio.h>
 #include <string.h>
 
-/* What an option takes with --vary; nothing where it does not go with it. */
-enum vary { VARY_RANGE, VARY_NUMBER, VARY_NOTHING };
-
 /* The options that take a number: its bounds, and what it is where none is given. */
 struct form {
     const char *option, *meaning;
     uint32_t low, high;
-    enum vary vary;
-    const char *without; /* NULL: one has to be given; of --input, --processes and --width it stands for none */
+    bool varies;         /* takes a range with --vary */
+    const char *without; /* NULL: one has to be given; of --input and --processes it stands for none */
 };
 
 static const struct form forms[NUMBERS] = {
-    {"--turns", "the label's maximum turns", 1, TAC_WIND_TURNS, VARY_RANGE, NULL},
-    {"--notches", "notches per turn", 1, TAC_WIND_NOTCHES, VARY_RANGE, NULL},
-    {"--rundown", "ticks from one notch that the train takes to the next", 1, TAC_WIND_RUNDOWN, VARY_RANGE, NULL},
-    {"--ticks", "ticks", 1, TAC_WIND_TICKS, VARY_NUMBER, "1000"},
-    {"--steps", "steps of the machine in a tick", 1, TAC_WIND_STEPS, VARY_RANGE, "1000"},
-    {"--input", "the input byte at the start", 0, 255, VARY_RANGE, "0"},
-    {"--processes", "processes at the same time", 1, PROCESSES_MOST, VARY_NUMBER, "1"},
-    {"--width", "ticks in a stretch", 1, TAC_WINDOW_RECORDS, VARY_NOTHING, "1"},
+    {"--turns", "the label's maximum turns", 1, TAC_WIND_TURNS, true, NULL},
+    {"--notches", "notches per turn", 1, TAC_WIND_NOTCHES, true, NULL},
+    {"--rundown", "ticks from one notch that the train takes to the next", 1, TAC_WIND_RUNDOWN, true, NULL},
+    {"--ticks", "ticks", 1, TAC_WIND_TICKS, false, "1000"},
+    {"--steps", "steps of the machine in a tick", 1, TAC_WIND_STEPS, true, "1000"},
+    {"--input", "the input byte at the start", 0, 255, true, "0"},
+    {"--processes", "processes at the same time", 1, PROCESSES_MOST, false, "1"},
 };
 
 /* The options that name a file to write. */
@@ -35,7 +31,6 @@ static const char *const written_options[WRITTENS] = {"--csv", "--svg", "--save"
 
 static const char *const help[] = {
     "usage: tac-winder [OPTION...] FILE",
-    "       tac-winder --width N --records FILE",
     "Simulates a winder: in each tick the machine runs, bit 0 of its output byte",
     "winds a notch, and the train takes one now and then. Bit 0 of its input byte",
     "says that the label is reached. The notches that stand are held against the",
@@ -57,9 +52,6 @@ static const char *const help[] = {
     "  --input N         the input byte at the start, 0-255; without it the",
     "                    machine's. Bit 0 is cleared in any case",
     "What is shown, besides a listing on standard output:",
-    "  --width N         the busiest stretch too: of all N ticks in a row, 1-4096,",
-    "                    the first in which the motor was on the most. Plot and",
-    "                    picture mark it. A run of fewer ticks is one stretch",
     "  --plot            the notches standing, as a plot; without it only where",
     "                    standard output is a terminal of 40 columns or more. If",
     "                    set, COLUMNS is its width, and NO_COLOR takes its colour",
@@ -71,12 +63,7 @@ static const char *const help[] = {
     "  --save FILE       writes the machine at the end, to a name that ends in",
     "                    .machine: its image and then its memory. The notches",
     "                    standing are not in it",
-    "Without a simulation, with --width and nothing else:",
-    "  --records FILE    the busiest stretch of the records in a file, one a tick:",
-    "                    1 if the motor was on, any other if it was off. A table",
-    "                    (.csv), as --csv writes it, has them in its column motor,",
-    "                    0-255; of any other file each byte is one",
-    "Many settings at once, at most 1,000,000, without plot, width and files:",
+    "Many settings at once, at most 1,000,000, without plot and files:",
     "  --vary            simulates each of them and lists those in which the label",
     "                    was passed, on a terminal the first 40. --turns, --notches,",
     "                    --rundown, --steps and --input take N, A-B or A-B:STEP",
@@ -85,11 +72,10 @@ static const char *const help[] = {
     "  --help, -h        this text",
     "Each simulation is done by the proved tac_wind and, but for --vary, tick by",
     "tick beside it; both have to agree. Ctrl-C stops it, and the listing has what",
-    "was done; while the ticks done are checked, Ctrl-C ends the check. The busiest",
-    "stretch is counted beside the proved tac_busiest, and both have to agree.",
-    "Exit status: 0 the label was not passed, or there is none (--records), 1 it was,",
-    "130 the program was stopped and the label not passed so far; 2 with a line on",
-    "standard error where something is bad, or can't be read or written.",
+    "was done; while the ticks done are checked, Ctrl-C ends the check.",
+    "Exit status: 0 the label was not passed, 1 it was, 130 the program was stopped",
+    "and the label not passed so far; 2 with a line on standard error where",
+    "something is bad, or can't be read or written.",
 };
 
 void print_help(void)
@@ -101,11 +87,10 @@ void print_help(void)
 /* A number, not a range. */
 static bool take_number(const char *text, const struct form *form, struct range *range, char *why)
 {
-    static const char *const instead[] = {"ranges go with --vary", "it takes a number, also with --vary", "it takes a number"};
     unsigned long number = 0;
     const char *behind = leading_number(text, &number);
     if (behind != NULL && *behind == '-')
-        return because(why, "%s is a range; %s", text, instead[form->vary]);
+        return because(why, "%s is a range; %s", text, form->varies ? "ranges go with --vary" : "it takes a number, also with --vary");
     if (behind == NULL || *behind != '\0')
         return because(why, "%s is no number, %lu-%lu", text, (unsigned long)form->low, (unsigned long)form->high);
     if (number < form->low || number > form->high)
@@ -114,19 +99,21 @@ static bool take_number(const char *text, const struct form *form, struct range 
     return true;
 }
 
-/* The number, or the range, of an option; `without` where none is given, and if that is NULL one has to be. */
-static void take_given(struct options *options, int k, const char *without)
+static void take_numbers(struct options *options)
 {
-    const struct form *form = &forms[k];
-    const char *text = options->words[k] != NULL ? options->words[k] : without;
-    struct range *range = &options->numbers[k];
     char why[WHY_BYTES];
-    if (text == NULL)
-        fail("%s is missing: %s, %lu-%lu; --help says more", form->option, form->meaning, (unsigned long)form->low,
-             (unsigned long)form->high);
-    bool ranges = options->vary && form->vary == VARY_RANGE;
-    if (!(ranges ? take_range(text, form->low, form->high, range, why) : take_number(text, form, range, why)))
-        fail("%s: %s", form->option, why);
+    for (int k = 0; k < NUMBERS; k++) {
+        const struct form *form = &forms[k];
+        const char *text = options->words[k] != NULL ? options->words[k] : form->without;
+        struct range *range = &options->numbers[k];
+        if (text == NULL)
+            fail("%s is missing: %s, %lu-%lu; --help says more", form->option, form->meaning, (unsigned long)form->low,
+                 (unsigned long)form->high);
+        bool taken =
+            options->vary && form->varies ? take_range(text, form->low, form->high, range, why) : take_number(text, form, range, why);
+        if (!taken)
+            fail("%s: %s", form->option, why);
+    }
 }
 
 /* Fails where a file to write is one that is read, or another one that is written. */
@@ -163,36 +150,15 @@ static void test_together(const struct options *options)
 {
     if (options->vary && options->plot)
         fail("--plot does not go with --vary");
-    for (int k = 0; k < NUMBERS; k++)
-        if (options->vary && options->words[k] != NULL && forms[k].vary == VARY_NOTHING)
-            fail("%s does not go with --vary", forms[k].option);
     test_written(options);
     if (options->plot && is_standard(options->written[WRITTEN_CSV]))
         fail("--plot does not go with --csv -");
     if (options->plot && is_standard(options->written[WRITTEN_SVG]))
         fail("--plot does not go with --svg -");
-    if (options->words[NUMBER_WIDTH] != NULL && is_standard(options->written[WRITTEN_CSV]) && options->written[WRITTEN_SVG] == NULL)
-        fail("--width does not go with --csv -, which does not show it");
     if (!options->vary && options->words[NUMBER_PROCESSES] != NULL)
         fail("--processes goes with --vary");
     if (options->file == NULL)
         fail("a card or a machine is missing; --help says more");
-}
-
-/* Fails where something does not go with --records. */
-static void test_records(const struct options *options)
-{
-    const char *other = options->loads.count > 0 ? "--load" : options->plot ? "--plot" : options->vary ? "--vary" : options->file;
-    for (int k = 0; k < NUMBERS; k++)
-        if (options->words[k] != NULL && k != NUMBER_WIDTH)
-            other = forms[k].option;
-    for (int k = 0; k < WRITTENS; k++)
-        if (options->written[k] != NULL)
-            other = written_options[k];
-    if (other != NULL)
-        fail("%s does not go with --records", other);
-    if (is_standard(options->records))
-        fail("--records -: records are read from a file, .csv or bytes");
 }
 
 bool is_standard(const char *name) { return name != NULL && strcmp(name, "-") == 0; }
@@ -226,28 +192,14 @@ static void take_word(struct options *options, int number, int argc, char **argv
 /* The options that take a word behind them, up to NULL. */
 static const char *const *operands(void)
 {
-    static const char *names[NUMBERS + WRITTENS + 3];
+    static const char *names[NUMBERS + WRITTENS + 2];
     int count = 0;
     for (int k = 0; k < NUMBERS; k++)
         names[count++] = forms[k].option;
     for (int k = 0; k < WRITTENS; k++)
         names[count++] = written_options[k];
-    names[count++] = "--load";
-    names[count] = "--records";
+    names[count] = "--load";
     return names;
-}
-
-/* Takes the numbers. Fails where something is bad or missing, or does not go with another. */
-static void take_numbers(struct options *options)
-{
-    if (options->records != NULL) {
-        test_records(options);
-        take_given(options, NUMBER_WIDTH, NULL);
-        return;
-    }
-    test_together(options);
-    for (int k = 0; k < NUMBERS; k++)
-        take_given(options, k, forms[k].without);
 }
 
 bool take_options(struct options *options, int argc, char **argv)
@@ -263,8 +215,6 @@ bool take_options(struct options *options, int argc, char **argv)
             take_word(options, number, argc, argv, &at);
         else if (strcmp(word, "--load") == 0)
             take_load(&options->loads, argc, argv, &at);
-        else if (strcmp(word, "--records") == 0)
-            take_operand(&options->records, NAME_MISSING, argc, argv, &at);
         else if (strcmp(word, "--plot") == 0)
             take_flag(&options->plot, word);
         else if (strcmp(word, "--vary") == 0)
@@ -272,6 +222,7 @@ bool take_options(struct options *options, int argc, char **argv)
         else
             take_file(&options->file, word, operands());
     }
+    test_together(options);
     take_numbers(options);
     return true;
 }

@@ -5,14 +5,13 @@
 #include "option.h"
 #include "range.h"
 
-enum number { NUMBER_TURNS, NUMBER_NOTCHES, NUMBER_RUNDOWN, NUMBER_TICKS, NUMBER_STEPS, NUMBER_INPUT, NUMBER_PROCESSES, NUMBER_WIDTH, NUMBERS };
+enum number { NUMBER_TURNS, NUMBER_NOTCHES, NUMBER_RUNDOWN, NUMBER_TICKS, NUMBER_STEPS, NUMBER_INPUT, NUMBER_PROCESSES, NUMBERS };
 
 /* What is written, in this order. */
 enum written { WRITTEN_CSV, WRITTEN_SVG, WRITTEN_MACHINE, WRITTENS };
 
 struct options {
     const char *file;
-    const char *records;           /* the file of records that takes the place of a simulation, or NULL */
     const char *written[WRITTENS]; /* the names of the files, or NULL; - is standard output */
     const char *words[NUMBERS];    /* as given, or NULL */
     struct range numbers[NUMBERS]; /* without --vary from a number to itself */

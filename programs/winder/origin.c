@@ -7,7 +7,8 @@
 
 static const char *kind_of(const struct origin *origin) { return ends_in(origin->file, ".machine") ? "machine" : "card"; }
 
-void print_name(const char *name)
+/* A name, in which no byte ends the line. */
+static void print_name(const char *name)
 {
     for (; *name != '\0'; name++)
         putchar((unsigned char)*name < ' ' || *name == 0x7F ? '?' : *name);

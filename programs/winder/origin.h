@@ -14,9 +14,6 @@ struct origin {
     struct range input;
 };
 
-/* A name, in which no byte ends the line. */
-void print_name(const char *name);
-
 /* A line for the file, and one for each file of words. */
 void print_origin(const struct origin *origin);
 

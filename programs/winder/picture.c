@@ -13,9 +13,6 @@
 #define BOTTOM 510
 #define LEGEND 98         /* the height of the line that says what label and circle are: no text is in the plot itself */
 #define LEGEND_MIDDLE 400 /* where its second part begins */
-#define BUSIEST 570       /* the height of the line that says what the band is, below the axis */
-#define BAND_LEAST 2      /* the width of the band, at least */
-#define BAND_LOOK "class=\"busiest\" fill=\"#fff0bf\""
 #define ORIGIN_MOST 110   /* characters of the card's name and others in a line */
 #define TICK_MARKS 10
 #define NOTCH_MARKS 8
@@ -31,7 +28,6 @@ struct picture {
     FILE *file;
     const struct origin *origin;
     const struct winding *winding;
-    const struct stretch *stretch; /* the busiest, NULL where none is marked */
     struct summary summary;
     uint32_t label, top; /* notches: the label's, and the upper edge's */
     struct point points[1 + 2 * STRETCHES];
@@ -67,15 +63,6 @@ static void write_line(const struct picture *picture, uint32_t x1, uint32_t y1, 
     write_tenths(picture->file, "\" x2=\"", x2);
     write_tenths(picture->file, "\" y2=\"", y2);
     fprintf(picture->file, "\" %s/>\n", look);
-}
-
-static void write_band(const struct picture *picture, uint32_t x, uint32_t y, uint32_t width, uint32_t height)
-{
-    write_tenths(picture->file, "<rect x=\"", x);
-    write_tenths(picture->file, "\" y=\"", y);
-    write_tenths(picture->file, "\" width=\"", width);
-    write_tenths(picture->file, "\" height=\"", height);
-    fprintf(picture->file, "\" " BAND_LOOK "/>\n");
 }
 
 /* Begins a text, of which `look` says more. */
@@ -150,20 +137,6 @@ static void write_axes(const struct picture *picture)
     fprintf(picture->file, "ticks</text>\n");
     begin_text(picture, 10 * LEFT, 10 * (TOP - 10), "text-anchor=\"end\"");
     fprintf(picture->file, "notches</text>\n");
-}
-
-/* The busiest stretch: a band over its ticks, and what it is, below the axis. */
-static void write_busiest(const struct picture *picture)
-{
-    const struct stretch *stretch = picture->stretch;
-    uint32_t left = x_of(picture, (uint32_t)stretch->first - 1), right = x_of(picture, (uint32_t)stretch->last);
-    left = left < 10 * (RIGHT - BAND_LEAST) ? left : 10 * (RIGHT - BAND_LEAST);
-    right = right > left + 10 * BAND_LEAST ? right : left + 10 * BAND_LEAST;
-    write_band(picture, left, 10 * TOP, right - left, 10 * (BOTTOM - TOP));
-    write_band(picture, 10 * LEFT, 10 * (BUSIEST - 10), 120, 120);
-    begin_text(picture, 10 * (LEFT + 20), 10 * BUSIEST, "class=\"busiest\"");
-    write_stretch(picture->file, stretch);
-    fprintf(picture->file, "</text>\n");
 }
 
 /* The points of a stretch of ticks: its least and its most, in their order. */
@@ -271,7 +244,6 @@ void write_svg(FILE *file, const void *what)
     picture.file = file;
     picture.origin = outcome->origin;
     picture.winding = winding;
-    picture.stretch = outcome->stretch != NULL && outcome->stretch->most > 0 ? outcome->stretch : NULL;
     picture.summary = winding_summary(winding);
     picture.label = label_notches(&winding->settings);
     picture.top = picture.summary.most > picture.label ? picture.summary.most : picture.label;
@@ -279,8 +251,6 @@ void write_svg(FILE *file, const void *what)
     find_points(&picture);
     write_head(&picture);
     write_legend(&picture);
-    if (picture.stretch != NULL)
-        write_busiest(&picture); /* before the axes, so that their lines are seen on the band */
     write_axes(&picture);
     if (winding->first_over != 0) {
         write_over(&picture, "fill=\"#e02020\" fill-opacity=\"0.5\"", true);

@@ -48,20 +48,11 @@ bool terminal_colour(void)
     return isatty(STDOUT_FILENO) == 1 && (refused == NULL || refused[0] == '\0');
 }
 
-/* The ticks of a column, from 0: from `from` on, before `to`. Of fewer ticks than columns each has several. */
-static void ticks_of(const struct plot *plot, uint32_t column, uint32_t *from, uint32_t *to)
-{
-    *from = column * plot->ticks / plot->columns;
-    *to = (column + 1) * plot->ticks / plot->columns;
-    if (*to == *from)
-        *to = *from + 1;
-}
-
+/* Of fewer ticks than columns each has several. */
 static void fill_columns(struct plot *plot, const struct tick *ticks)
 {
     for (uint32_t column = 0; column < plot->columns; column++) {
-        uint32_t from, to;
-        ticks_of(plot, column, &from, &to);
+        uint32_t from = column * plot->ticks / plot->columns, to = (column + 1) * plot->ticks / plot->columns;
         plot->most[column] = ticks[from].standing;
         for (uint32_t k = from + 1; k < to; k++)
             if (ticks[k].standing > plot->most[column])
@@ -189,20 +180,7 @@ static void print_axis(const struct plot *plot)
     printf("%s\n", numbers);
 }
 
-/* The columns with ticks of the busiest stretch. */
-static void print_busiest(const struct plot *plot, const struct stretch *stretch)
-{
-    char cells[COLUMNS_MOST];
-    for (uint32_t k = 0; k < plot->columns; k++) {
-        uint32_t from, to;
-        ticks_of(plot, k, &from, &to);
-        cells[k] = from < stretch->last && to >= stretch->first ? '=' : ' ';
-    }
-    printf("%7s  ", "busiest");
-    print_cells(plot, cells, "");
-}
-
-void print_plot(const struct winding *winding, const struct stretch *stretch, unsigned columns, bool colour)
+void print_plot(const struct winding *winding, unsigned columns, bool colour)
 {
     static struct plot plot;
     lay_out(&plot, winding, columns, colour);
@@ -213,6 +191,4 @@ void print_plot(const struct winding *winding, const struct stretch *stretch, un
     for (uint32_t row = plot.below; row > 0; row--)
         print_row(&plot, row);
     print_axis(&plot);
-    if (stretch != NULL && stretch->most > 0)
-        print_busiest(&plot, stretch);
 }

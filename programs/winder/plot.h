@@ -2,7 +2,6 @@
 #ifndef WINDER_PLOT_H
 #define WINDER_PLOT_H
 
-#include "stretch.h"
 #include "ticks.h"
 
 #include <stdbool.h>
@@ -16,7 +15,7 @@ unsigned terminal_columns(void);
 bool terminal_colour(void);
 
 /* Prints a plot so many columns wide, but at least PLOT_COLUMNS_LEAST: # up to the label, ! over it. A column shows the most standing within
- * its ticks. A row below marks the columns with ticks of the busiest stretch, which may be NULL. */
-void print_plot(const struct winding *winding, const struct stretch *stretch, unsigned columns, bool colour);
+ * its ticks. */
+void print_plot(const struct winding *winding, unsigned columns, bool colour);
 
 #endif

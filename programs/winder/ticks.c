@@ -53,12 +53,6 @@ void winding_tick(struct winding *winding)
     put_input(&winding->machine, standing / settings->notches >= settings->turns);
 }
 
-void winding_records(const struct winding *winding, uint8_t *records)
-{
-    for (uint32_t k = 0; k < winding->done; k++)
-        records[k] = winding->ticks[k].motor != 0 ? TAC_RECORD_ON : 0;
-}
-
 struct summary winding_summary(const struct winding *winding)
 {
     struct summary summary = {0, 0, 0, 0, false, winding->ticks[winding->done - 1].standing, 0};

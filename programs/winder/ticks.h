@@ -49,9 +49,6 @@ void winding_begin(struct winding *winding, const struct machine *start, const s
 /* The next tick. */
 void winding_tick(struct winding *winding);
 
-/* The records of the ticks done, a byte each: TAC_RECORD_ON where the motor was on. */
-void winding_records(const struct winding *winding, uint8_t *records);
-
 /* Of at least one tick. */
 struct summary winding_summary(const struct winding *winding);
 

@@ -108,7 +108,7 @@ fn header() {
     let records = [("TAC_WINDOW_RECORDS", load::WIDEST as usize), ("TAC_RECORD_ON", load::ON as usize)];
     let named = |name: &str| name.starts_with("TAC_WINDOW_") || name.starts_with("TAC_RECORD_");
     assert_eq!(defined(&header, named), numbers(&records));
-    let version = [("TAC_VERSION_MAJOR", 2), ("TAC_VERSION_MINOR", 2)];
+    let version = [("TAC_VERSION_MAJOR", 2), ("TAC_VERSION_MINOR", 1)];
     assert_eq!(defined(&header, |name| name.starts_with("TAC_VERSION_")), numbers(&version));
 }
 

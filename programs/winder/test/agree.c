@@ -1,6 +1,5 @@
-/* Random machines and settings: the ticks done one by one are those of tac_wind, and their records balance and are those that its places
- * tell. Prints how many of the machines entered the kernel, were halted, were lost, reached the label and passed it, and of how many ticks
- * the places tell the motor. */
+/* Random machines and settings: the ticks done one by one are those of tac_wind, and their records balance. Prints how many of the machines
+ * entered the kernel, were halted, were lost, reached the label and passed it. */
 #include "message.h"
 #include "proved.h"
 
@@ -103,36 +102,13 @@ static bool balanced(const struct winding *winding, unsigned machine)
     return ever;
 }
 
-/* The motor records beside the places of tac_wind: a notch more than the train leaves is wound. Where none stands before and after a tick in
- * which the train takes, it may have taken one that was wound in it or none. Answers in how many ticks the places tell the motor on, and in
- * `off` in how many off. */
-static unsigned told(const struct winding *winding, const struct proved *proved, unsigned machine, unsigned *off)
-{
-    static uint8_t records[TAC_WIND_TICKS];
-    unsigned before = 0, on = 0;
-    winding_records(winding, records);
-    for (uint32_t k = 0; k < winding->done; k++) {
-        unsigned place = word_in(proved->places, (int)(TAC_WIND_PLACE_BYTES * k));
-        bool takes = (k + 1) % winding->settings.rundown == 0;
-        unsigned wound = place + takes - before;
-        if (!takes || place > 0 || before > 0) {
-            must(wound <= 1, machine, "a place that the motor can't reach");
-            must(records[k] == (wound == 1 ? TAC_RECORD_ON : 0), machine, "a record that the places don't tell");
-            on += wound;
-            *off += wound == 0;
-        }
-        before = place;
-    }
-    return on;
-}
-
 int main(void)
 {
     static struct machine start;
     static struct winding winding;
     static struct proved proved;
     char why[WHY_BYTES];
-    unsigned entered = 0, halted = 0, lost = 0, reached = 0, over = 0, on = 0, off = 0, ticks = 0;
+    unsigned entered = 0, halted = 0, lost = 0, reached = 0, over = 0;
     for (unsigned k = 0; k < MACHINES; k++) {
         struct settings settings = {1 + below(3), 1 + below(8), 1 + below(below(2) == 0 ? 4 : 64), 1 + below(300), 1 + below(40)};
         put_machine(&start);
@@ -143,14 +119,11 @@ int main(void)
         must(same_as_proved(&winding, &proved, why), k, why);
         reached += balanced(&winding, k);
         over += winding.first_over != 0;
-        on += told(&winding, &proved, k, &off);
-        ticks += winding.done;
         entered += enters(&start, settings.steps);
         halted += winding.machine.image[TAC_IMAGE_CONDITION] == TAC_CONDITION_HALTED;
         lost += winding.machine.image[TAC_IMAGE_CONDITION] == TAC_CONDITION_LOST;
     }
     printf("%d machines: %u enter the kernel in their first tick, %u halted, %u lost, %u reach the label, %u pass it\n", MACHINES, entered,
            halted, lost, reached, over);
-    printf("%u ticks: by the places the motor is on in %u, off in %u\n", ticks, on, off);
     return 0;
 }

@@ -26,7 +26,7 @@ int main(int argc, char **argv)
     static struct machine start;
     static struct winding winding;
     struct origin origin = {"made.card", &none, false, {0, 0, 1}};
-    struct outcome outcome = {&origin, &winding, NULL};
+    struct outcome outcome = {&origin, &winding};
     bool both = argc > 1 && strcmp(argv[1], "both") == 0;
     struct settings settings = {1, 2, 3, both ? TAC_WIND_TICKS : 1, both ? TAC_WIND_STEPS : 1};
     machine_reset(&start);
