@@ -9,7 +9,7 @@ use Rattle.word.specs.Cases.{either, rest, this}
 use Rattle.word.specs.Word.{upper}
 use Rattle.decode.specs.Code.{HALT, IN, OUT, RETI}
 use Rattle.decode.specs.Decode.{first_in, first_of, rd_bad, rd_field, shape_of}
-use Rattle.decode.specs.Instructions.{Row, eight, row, rows, single}
+use Rattle.decode.specs.Instructions.{Row, row, rows}
 use Rattle.decode.specs.Opcode.{Opcode, in_modes, in_rows, known, mode_bits, opcode_of, unknown}
 use Rattle.decode.specs.declared.First.{First}
 use Rattle.decode.specs.declared.First.TheVariants.{Defined, Undefined}
@@ -82,10 +82,3 @@ abbrev pub guarded : Privilege → ℕ → Bool
 guarded Anyone code = plain code
 guarded Ports code = true
 guarded Kernel code = true
-
-all_guarded : in_each_row (λ (r : Row) (m : ℕ). guarded r.privilege r.code) rows ≡ true
-unfolding rows row eight single in_each_mode in_each_row
-all_guarded = refl
-
-pub shape_guarded : (w : ℕ) (shape : Shape) → Defined shape ≡ first_of w → guarded shape.privilege shape.code ≡ true
-shape_guarded w shape e = let d = decoded_has (λ (r : Row) (m : ℕ). guarded r.privilege r.code) all_guarded w shape e in rw d.is d.has

@@ -12,9 +12,9 @@ use Rattle.layout.specs.Valid.{good_image}
 use Rattle.report.specs.Layout.{report_size}
 use Rattle.refusal.specs.declared.Validity.TheVariants.{Good}
 use Rattle.machine.specs.declared.State.{State}
-use Rattle.roundtrip.specs.Good.{good_encodes, image_long_lem}
-use Rattle.roundtrip.specs.Ranged.{image_bytes_lem}
-use Rattle.roundtrip.specs.Runs.{sound_decoded}
+use Rattle.roundtrip.proofs.Good.{good_encodes, image_long_lem}
+use Rattle.roundtrip.proofs.Ranged.{image_bytes_lem}
+use Rattle.roundtrip.proofs.Runs.{sound_decoded}
 use Rattle.roundtrip.specs.Statement.{Bytes, SoundMachine}
 use Rattle.joined.specs.Keeps.{execute_good}
 use Rattle.joined.specs.Statement.{CardLeaves, Left}

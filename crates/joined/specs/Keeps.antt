@@ -16,7 +16,7 @@ use Rattle.machine.specs.Flag.{with_flag}
 use Rattle.machine.specs.State.{with_mmu, with_tlb}
 use Rattle.machine.specs.declared.State.{State}
 use Rattle.roundtrip.specs.Each.{each_set}
-use Rattle.roundtrip.specs.Runs.{run_sound}
+use Rattle.roundtrip.proofs.Runs.{run_sound}
 use Rattle.roundtrip.specs.Statement.{Bytes, Each, EntryFits, GoodState, Ranged, Sound, SoundMachine, Word, Zeros}
 use Rattle.roundtrip.specs.Timers.{GoodTimer, TimerFits}
 use Rattle.roundtrip.specs.Statement as range

@@ -5,4 +5,3 @@ pub mod Operands
 pub mod Parses
 pub mod Reading
 pub mod Statement
-pub mod Theorem

@@ -15,7 +15,7 @@ use Rattle.machine.specs.Run.{run_of}
 use Rattle.machine.specs.declared.Ending.{Ending}
 use Rattle.machine.specs.declared.Ending.TheVariants as ending
 use Rattle.machine.specs.declared.State.{State}
-use Rattle.readers.specs.Shown.{run_number}
+use Rattle.readers.proofs.Shown.{run_number}
 use Rattle.refusal.specs.declared.Validity.TheVariants.{Good}
 use Rattle.roundtrip.specs.Statement.{GoodState}
 use Rattle.lines.specs.Statement.{EndingText, HeadLine, LastLine, ListingOfReports, NumberText, Reports, RunLine}

@@ -9,7 +9,7 @@ use Rattle.refusal.specs.Refusal.{cause_number, refused}
 use Rattle.refusal.specs.declared.Cause.TheVariants.{CommandBeyond}
 use Rattle.refusal.specs.declared.Validity.{Validity}
 use Rattle.refusal.specs.declared.Validity.TheVariants.{Good, Refused}
-use Rattle.text.specs.Laws.{cond_bound, decimal_bound}
+use Rattle.text.proofs.Laws.{cond_bound, decimal_bound}
 use Rattle.text.specs.Text.{ascii, decimal_of, hex_of}
 
 ending_bound : (n : ℕ) → length (ending_text n) ≤ 7

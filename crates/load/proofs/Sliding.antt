@@ -6,7 +6,7 @@ use Prim.Native.Nat.{max, min, ℕ, ◌+◌, ◌-◌, ◌<◌, ◌≤◌}
 use native.Mathlib.Omega.{arith, min_cases}
 use lib.ListN.{get_or, length, take}
 use lib.Seq.{take_all, take-length}
-use Rattle.load.specs.Laws.{largest_more, load_at_small, load_first, load_moves, on_small}
+use Rattle.load.proofs.Laws.{largest_more, load_at_small, load_first, load_moves, on_small}
 use Rattle.load.specs.Load.{busiest_of, largest_to, load_at, load_of, on_of}
 
 -- ---- the count

@@ -1,5 +1,3 @@
 pub mod Statement
 pub mod Stopped
-pub mod Stops
-pub mod Theorem
 pub mod Worked

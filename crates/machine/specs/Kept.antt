@@ -9,7 +9,8 @@ use Rattle.decode.specs.Code.{HALT}
 use Rattle.decode.specs.declared.Instruction.{Instruction}
 use Rattle.mmu.specs.Access.{access_of}
 use Rattle.mmu.specs.Entry.{marked}
-use Rattle.mmu.specs.Laws.{access_cases, access_keeps}
+use Rattle.mmu.specs.Laws.{access_keeps}
+use Rattle.mmu.proofs.Laws.{access_cases}
 use Rattle.memory.specs.Memory.{stored}
 use Rattle.mmu.specs.declared.Access.{Access}
 use Rattle.mmu.specs.declared.Access.TheVariants as access

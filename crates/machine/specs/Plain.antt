@@ -3,7 +3,8 @@
 use Rattle.std.specs.Prelude.{false, true, ◌≡◌, ℕ}
 use Rattle.std.proofs.lemmas.Bool.{false≢true}
 use Rattle.decode.specs.Decode.{first_of}
-use Rattle.decode.specs.Laws.{guarded, plain, shape_guarded}
+use Rattle.decode.specs.Laws.{guarded, plain}
+use Rattle.decode.proofs.Laws.{shape_guarded}
 use Rattle.decode.specs.declared.First.TheVariants.{Defined}
 use Rattle.decode.specs.declared.Privilege.{Privilege}
 use Rattle.decode.specs.declared.Privilege.TheVariants.{Anyone, Kernel, Ports}

@@ -2,7 +2,6 @@ pub mod Access
 pub mod Answers
 pub mod Entry
 pub mod Found
-pub mod Grants
 pub mod Laws
 pub mod Lookup
 pub mod Marks

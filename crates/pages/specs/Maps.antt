@@ -10,7 +10,7 @@ use native.Mathlib.Omega.{arith}
 use mir.Val.{bool_byte}
 use Rattle.mmu.specs.Access.{access_of, aligned_access, granted}
 use Rattle.mmu.specs.Entry.{frame_in, page_in, valid}
-use Rattle.mmu.specs.Grants.{aligned_access_lem, plain_granted, served_marked, translated}
+use Rattle.mmu.proofs.Grants.{aligned_access_lem, plain_granted, served_marked, translated}
 use Rattle.mmu.specs.Lookup.{has_page, lookup_from, lookup_of}
 use Rattle.mmu.specs.Marks.{usable_marked, usable_in}
 use Rattle.mmu.specs.declared.Lookup.{Lookup}

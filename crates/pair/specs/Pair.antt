@@ -44,7 +44,7 @@ use Rattle.endian.specs.Bytes.{word_bytes, word_from}
 use Rattle.word.specs.Cases.{rest, this}
 use Rattle.word.specs.Word.{upper}
 use Rattle.calls.specs.Statement.{Given, Shared}
-use Rattle.calls.specs.Theorem.{isolated_calls}
+use Rattle.calls.proofs.Theorem.{isolated_calls}
 
 -- ---- the buffers
 

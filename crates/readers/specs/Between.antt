@@ -3,7 +3,7 @@
 use Rattle.std.specs.Prelude.{List, ◌≡◌, refl, ℕ, suc, zero, ◌+◌}
 use Rattle.std.proofs.Common.{◌∙◌, suc-add, zero-add}
 use Rattle.counting.specs.Statement.{Ended}
-use Rattle.counting.specs.Theorem.{counted}
+use Rattle.counting.proofs.Theorem.{counted}
 use Rattle.machine.specs.Answers.{states_of}
 use Rattle.machine.specs.Enter.{Outcome}
 use Rattle.machine.specs.Run.{Ran, ran, run_from, run_of, unless_entered, unless_stopped}

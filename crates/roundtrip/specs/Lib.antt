@@ -1,10 +1,4 @@
 pub mod Each
-pub mod Fits
-pub mod Good
 pub mod Images
-pub mod Ranged
-pub mod RangedSteps
-pub mod Runs
 pub mod Statement
-pub mod Steps
 pub mod Timers

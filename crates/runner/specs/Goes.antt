@@ -13,7 +13,7 @@ use Rattle.word.specs.declared.Width.TheVariants.{Word}
 use Rattle.refinement.specs.Statement.{MapOf, did, hot_state}
 use Rattle.hot.specs.Conditions.{top_of}
 use Rattle.hot.specs.Tells.{Told, stopped}
-use Rattle.refinement.specs.Carried.{carried}
+use Rattle.refinement.proofs.Carried.{carried}
 use Rattle.hot.specs.declared.Hot.{Hot}
 
 -- `steps` instructions in `states` states

@@ -1,10 +1,8 @@
 -- Worked timers: milliseconds and lines.
 -- Assumes nothing.
-use Rattle.std.specs.Prelude.{Bool, false, true, refl, ◌≡◌, ℕ}
-use mathlib.Core.List.{List, [], map, map_congr_left, ◌∷◌}
-use Rattle.std.proofs.Common.{◌∙◌}
-use Rattle.timer.specs.AtOnce.{come_to, is_quick, quick}
-use Rattle.timer.specs.Time.{counted, counts, elapsed, fires, lines_of, passed_of, ticked}
+use Rattle.std.specs.Prelude.{Bool, false, true, ◌≡◌, ℕ}
+use mathlib.Core.List.{List, [], map, ◌∷◌}
+use Rattle.timer.specs.Time.{counted, elapsed, passed_of}
 use Rattle.timer.specs.declared.Elapsed.{Elapsed}
 use Rattle.timer.specs.declared.Timer.{Timer}
 use Rattle.timer.specs.declared.Timers.{Timers}
@@ -74,13 +72,6 @@ rows =
     ∷ row 65535 (ringing 0 65535 false) 0 true true
     ∷ []
 
-abbrev quickly : Row → Elapsed
-quickly r = quick r.ms r.before
-
-computed : map quickly rows ≡ map expected rows
-unfolding rows quick come_to counts
-computed = refl
-
 -- ---- both timers
 
 abbrev pub both : Timer → Timer → Timers
@@ -100,7 +91,3 @@ pub record Worked : Type 0 where
       ∷ both (silent 7 10 false) (stopped 7 10 false)
       ∷ [])
       ≡ (0x0001 ∷ 0x0002 ∷ 0x0003 ∷ 0x0000 ∷ [])
-
-pub worked_timers : Worked
-unfolding elapsed ticked fires counts lines_of
-worked_timers = record { times = map_congr_left {l = rows} (λ r m. is_quick r.ms r.before) ∙ computed; lines = refl }

@@ -1,11 +1,6 @@
-pub mod Calls
-pub mod CardCalls
 pub mod Cards
 pub mod Lines
 pub mod Milliseconds
 pub mod NoTime
 pub mod Passing
-pub mod Simulations
 pub mod Statement
-pub mod Steps
-pub mod Users

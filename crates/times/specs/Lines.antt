@@ -5,7 +5,7 @@ use Rattle.std.proofs.lemmas.Bool.{false≢true}
 use Rattle.std.proofs.Math.Logic.{inl}
 use Rattle.std.proofs.Common.{inr, ⊎_elim, ap, sym, ◌∙◌, arith}
 use Rattle.counting.specs.Statement.{entry, event_at}
-use Rattle.counting.specs.Theorem.{counted}
+use Rattle.counting.proofs.Theorem.{counted}
 use Rattle.machine.specs.Enter.{Outcome, enter_of}
 use Rattle.machine.specs.Execute.{after_operation, body_of}
 use Rattle.machine.specs.Fault.{noted}

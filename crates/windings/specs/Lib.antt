@@ -1,5 +1,3 @@
-pub mod Calls
 pub mod Input
 pub mod Statement
-pub mod Theorem
 pub mod Worked

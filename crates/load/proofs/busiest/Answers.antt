@@ -4,7 +4,7 @@ use native.Mathlib.Omega.{arith}
 use Rattle.call.specs.Laws.{called_is}
 use Rattle.call.specs.declared.Answer.TheVariants.{Done}
 use Rattle.load.specs.Call.{busiest_call}
-use Rattle.load.specs.Laws.{busiest_small}
+use Rattle.load.proofs.Laws.{busiest_small}
 use Rattle.load.proofs.busiest.Goals as goal
 
 pub overflow_cast-result : goal.overflow_cast-result

@@ -3,7 +3,7 @@ use mathlib.Core.List.{List, [], ◌++◌, ◌∷◌}
 use mathlib.Core.Path.{refl, ◌≡◌}
 use Prim.Native.Nat.{suc, zero, ℕ, ◌%◌, ◌-◌, ◌/◌, ◌<◌, ◌≤◌}
 use native.Mathlib.Numerals.{sub-one}
-use Rattle.text.specs.Laws.{decimal_long, decimal_short}
+use Rattle.text.proofs.Laws.{decimal_long, decimal_short}
 use Rattle.text.specs.Text.{decimal_of, digit_of}
 use Rattle.text.specs.Written.{WroteText}
 use Rattle.text.specs.Wrote.{nothing, then}

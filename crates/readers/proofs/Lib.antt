@@ -1,0 +1,3 @@
+pub mod Consuming
+pub mod Shown
+pub mod Stops
