@@ -1,17 +1,17 @@
 -- The busiest window's load: proofs of what is promised.
 -- Assumes nothing.
-use Rattle.std.specs.Prelude.{Bool, false, true, List, [], ◌++◌, refl, ◌≡◌, max, suc, zero, ℕ, ◌+◌, ◌<◌, ◌≤◌, ltb, drop, length, take}
+use Rattle.std.specs.Prelude.{Bool, false, true, List, [], ◌++◌, refl, ◌≡◌, suc, zero, ℕ, ◌+◌, ◌<◌, ◌≤◌, ltb, drop, length, take}
 use Rattle.std.proofs.Common.{⊎_elim, ap, sym, ◌∙◌, eq-or-lt_of_le, le_antisymm, ltb-false, ltb-true, length-append, length-drop, take-append-drop, length-take-le, take_all, take_at}
 use native.Mathlib.Omega.{arith, max_cases}
 use Rattle.std.proofs.Math.Seq.{drop-append_seam}
 use Rattle.call.specs.Call.{called, unless_refused}
 use Rattle.call.specs.declared.Answer.TheVariants as answer
-use Rattle.refusal.specs.Laws.{Range, between_range, range_between}
+use Rattle.refusal.specs.Laws.{between_range, range_between}
 use Rattle.refusal.specs.Refusal.{between, good_if}
 use Rattle.refusal.specs.declared.Cause.TheVariants.{WindowWidth}
 use Rattle.load.specs.Call.{busiest_call, width_valid}
 use Rattle.load.specs.Load.{busiest_of, largest_to, last_start, load_at, load_of, window_at}
-use Rattle.load.specs.Statement.{Busiest, CallGives, EmptyRun, IsBusiest, NotTwice, OneWindow, OnlyBusiest, RefusedTen, Window}
+use Rattle.load.specs.Statement.{CallGives, EmptyRun, IsBusiest, NotTwice, OneWindow, OnlyBusiest, RefusedTen, Window}
 use Rattle.load.specs.Statement.Window.{consecutive, single}
 
 -- ---- the largest of several

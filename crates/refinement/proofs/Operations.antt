@@ -238,7 +238,8 @@ module _ (b : State) (rs : List ℕ) (size : length rs ≡ 16) (h : Hot) (m : Li
     pub push_does :
         upper w ≡ PUSH * 8 → rd < 14 → (sp at : ℕ) → sp ≡ minus (get_or rs 13 0) 2 → Grants b Write sp at
         → Does b rs h m w (set rs 13 sp) next h.v h.c (s_of h) (z_of h) (store_word m at held) 5
-    unfolding opcode_of in_rows in_modes mode_bits rows row eight single add_states div_states shift_states cost_of states_at need_of value_stored transfer_of end_of commit after_operation body_of event_of stored
+    unfolding opcode_of in_rows in_modes mode_bits rows row eight single add_states div_states
+        shift_states cost_of states_at need_of value_stored transfer_of end_of commit after_operation body_of event_of stored
     push_does e low sp at q g =
         rw (
           finishes {code = PUSH} {cost = 5} {access = data-access.Push} {f = flow.Next} (opens _ refl refl) e (low_register rd low)
@@ -252,7 +253,8 @@ module _ (b : State) (rs : List ℕ) (size : length rs ≡ 16) (h : Hot) (m : Li
     pub pop_does :
         upper w ≡ PUSH * 8 + 4 → rd < 14 → (at sp x : ℕ) → Grants b Read (get_or rs 13 0) at → x ≡ word_at m at → sp ≡ plus (get_or rs 13 0) 2
         → Does b rs h m w (set (set rs 13 sp) rd x) next h.v h.c (s_of h) (z_of h) m 6
-    unfolding opcode_of in_rows in_modes mode_bits rows row eight single add_states div_states shift_states cost_of states_at need_of value_stored transfer_of end_of commit after_operation body_of event_of stored
+    unfolding opcode_of in_rows in_modes mode_bits rows row eight single add_states div_states
+        shift_states cost_of states_at need_of value_stored transfer_of end_of commit after_operation body_of event_of stored
     pop_does e low at sp x g q k =
         rw (
           finishes {code = POP} {cost = 6} {access = data-access.Pop} {f = flow.Next} (opens _ refl refl) e (low_register rd low)
@@ -266,7 +268,8 @@ module _ (b : State) (rs : List ℕ) (size : length rs ≡ 16) (h : Hot) (m : Li
     pub ret_does :
         upper w ≡ RET * 8 → (at sp x : ℕ) → Grants b Read (get_or rs 13 0) at → x ≡ word_at m at → sp ≡ plus (get_or rs 13 0) 2
         → Does b rs h m w (set rs 13 sp) x h.v h.c (s_of h) (z_of h) m 6
-    unfolding opcode_of in_rows in_modes mode_bits rows row eight single add_states div_states shift_states cost_of states_at need_of value_stored transfer_of end_of commit after_operation body_of event_of stored
+    unfolding opcode_of in_rows in_modes mode_bits rows row eight single add_states div_states
+        shift_states cost_of states_at need_of value_stored transfer_of end_of commit after_operation body_of event_of stored
     ret_does e at sp x g q k =
         rw (
           finishes {code = RET} {cost = 6} {access = data-access.Pop} {f = flow.Return} (opens _ refl refl) e refl operand.Nothing

@@ -1,4 +1,5 @@
-// The interface for C: runs, cards, views, looks, simulations of a winder and the load of its motor, on buffers that the caller lends.
+// The calls of the interface for C, each with its answer in one number: runs, cards, views, looks, simulations of a winder and the load of its motor, on
+// buffers that the caller lends. `tac_c` exports them.
 #![tactic(auto)]
 
 ghost use Rattle.std.specs.Prelude.{◌≡◌};
@@ -29,50 +30,35 @@ fn pack(answer: Answer) -> u64
 }
 
 // A run of at most `allowance` steps.
-#[unsafe(no_mangle)]
-pub extern "C" fn tac_run(
-    memory: &mut [u8],
-    image: &mut [u8],
-    allowance: u16,
-    report: &mut [u8],
-) -> u64
+pub fn tac_run(memory: &mut [u8], image: &mut [u8], allowance: u16, report: &mut [u8]) -> u64
     ensures { called result (buffers memory.new image.new report.new) ≡ def.packed_call (run_call memory.old image.old allowance report.old) }
 {
     pack(direct::run(memory, image, allowance, report))
 }
 
 // A bench card.
-#[unsafe(no_mangle)]
-pub extern "C" fn tac_card(
-    memory: &mut [u8],
-    image: &mut [u8],
-    card: &[u8],
-    report: &mut [u8],
-) -> u64
+pub fn tac_card(memory: &mut [u8], image: &mut [u8], card: &[u8], report: &mut [u8]) -> u64
     ensures { called result (buffers memory.new image.new report.new) ≡ def.packed_call (card_call memory.old image.old card.now report.old) }
 {
     pack(card::perform(memory, image, card, report))
 }
 
 // The report of a run of no step; memory and image are read alone.
-#[unsafe(no_mangle)]
-pub extern "C" fn tac_view(memory: &[u8], image: &[u8], report: &mut [u8]) -> u64
+pub fn tac_view(memory: &[u8], image: &[u8], report: &mut [u8]) -> u64
     ensures { called result (buffers memory.now image.now report.new) ≡ def.packed_call (view_call memory.now image.now report.old) }
 {
     pack(view::view(memory, image, report))
 }
 
 // A look at the fault record; the image is read alone.
-#[unsafe(no_mangle)]
-pub extern "C" fn tac_fault(image: &[u8]) -> u64
+pub fn tac_fault(image: &[u8]) -> u64
     ensures { called result image.now ≡ def.packed_call (fault_call image.now) }
 {
     pack(look::look(image))
 }
 
 // A simulation of the winder.
-#[unsafe(no_mangle)]
-pub extern "C" fn tac_wind(
+pub fn tac_wind(
     memory: &mut [u8],
     image: &mut [u8],
     turns: u32,
@@ -95,8 +81,7 @@ pub extern "C" fn tac_wind(
 }
 
 // The records on in the busiest window of so many ticks; the records are read alone.
-#[unsafe(no_mangle)]
-pub extern "C" fn tac_busiest(records: &[u8], width: u32) -> u64
+pub fn tac_busiest(records: &[u8], width: u32) -> u64
     ensures { called result records.now ≡ def.packed_call (busiest_call records.now width) }
 {
     pack(load::busiest(records, width))

@@ -40,7 +40,7 @@ word_from-requires-in-7 c = omega (arith, room _ 7 2 _ c.in-7.is refl c.requires
 pub word_from-requires-in_default : goal.word_from-requires-in_default
 unfolding operands_of
 word_from-requires-in_default c =
-    omega (arith, room _ 8 2 _ (last c.args.number c.requires.1 c.in_default.in_default-own.rest) refl c.requires.0)
+    omega (arith, room _ 8 2 _ (last c.args.number c.requires.1 (omega arith)) refl c.requires.0)
 
 pub returns-in-1-clause-command : goal.returns-in-1-clause-command
 unfolding command_of
@@ -72,7 +72,7 @@ returns-in-7-clause-command c = rw (c.in-7.is, ← c.word_from-in-7.ensures)
 
 pub returns-in_default-clause-command : goal.returns-in_default-clause-command
 unfolding command_of
-returns-in_default-clause-command c = rw (last c.args.number c.requires.1 c.in_default.in_default-own.rest, ← c.word_from-in_default.ensures)
+returns-in_default-clause-command c = rw (last c.args.number c.requires.1 (omega arith), ← c.word_from-in_default.ensures)
 
 pub returns-in_default-clause-numbered : goal.returns-in_default-clause-numbered
-returns-in_default-clause-numbered c = sym (last c.args.number c.requires.1 c.in_default.in_default-own.rest)
+returns-in_default-clause-numbered c = sym (last c.args.number c.requires.1 (omega arith))

@@ -1,4 +1,5 @@
 -- `command::parser::operand_count` meets its contract.
+use native.Mathlib.Omega.{arith}
 use mathlib.Core.Path.{sym}
 use Rattle.command.specs.Command.{operands_of}
 use Rattle.command.proofs.Operands.{none}
@@ -37,4 +38,4 @@ unfolding operands_of
 returns-in-8 c = rw c.in-8.is
 
 pub returns-in_default : goal.returns-in_default
-returns-in_default c = sym (none _ c.in_default.in_default-own.rest)
+returns-in_default c = sym (none c.args.number (omega arith))

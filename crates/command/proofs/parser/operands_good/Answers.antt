@@ -53,11 +53,11 @@ returns-in-7 c = rw c.in-7.is (rw (← c.word_from-in-7.ensures) c.flag_good.ens
 pub returns-in_default : goal.returns-in_default
 unfolding good_of
 returns-in_default c =
-    let other = c.in_default.in_default-own.rest in
+    let n = c.args.number in
     rw (
-      ne_eqb _ _ other.0.0.0.0.1,
-      ne_eqb _ _ other.0.0.0.1,
-      ne_eqb _ _ other.0.0.1,
-      ne_eqb _ _ other.0.1,
-      ne_eqb _ _ other.1,
+      ne_eqb n 2 (omega arith),
+      ne_eqb n 3 (omega arith),
+      ne_eqb n 5 (omega arith),
+      ne_eqb n 6 (omega arith),
+      ne_eqb n 7 (omega arith),
     )

@@ -48,20 +48,20 @@ returns-in-27 c = rw c.in-27.is
 
 pub returns-in-3-to-12 : goal.returns-in-3-to-12
 unfolding row_of with_code rows row no_row values
-returns-in-3-to-12 c = within (λ r. r.access) Source 1 12 singles refl c.args.code (omega arith) ((((((((tt, omega arith), omega arith), omega arith), omega arith), omega arith), omega arith), omega arith), omega arith)
+returns-in-3-to-12 c = within (λ r. r.access) Source 1 12 singles refl c.args.code (omega arith) (omega arith)
 
 pub returns-in-16-to-19 : goal.returns-in-16-to-19
 unfolding row_of with_code rows row no_row values
-returns-in-16-to-19 c = within (λ r. r.access) Source 15 5 singles refl c.args.code (omega arith) ((((((((tt, omega arith), omega arith), omega arith), omega arith), omega arith), omega arith), omega arith), omega arith)
+returns-in-16-to-19 c = within (λ r. r.access) Source 15 5 singles refl c.args.code (omega arith) (omega arith)
 
 pub returns-in_default : goal.returns-in_default
 unfolding row_of with_code rows row no_row values
-returns-in_default c = within (λ r. r.access) None 0 1 singles refl c.args.code (omega arith) ((((((((tt, omega arith), omega arith), omega arith), omega arith), omega arith), omega arith), omega arith), omega arith)
+returns-in_default c = within (λ r. r.access) None 0 1 singles refl c.args.code (omega arith) (omega arith)
 
 pub returns-in_default-2 : goal.returns-in_default-2
 unfolding row_of with_code rows row no_row values
-returns-in_default-2 c = within (λ r. r.access) None 13 2 singles refl c.args.code (omega arith) ((((((((tt, omega arith), omega arith), omega arith), omega arith), omega arith), omega arith), omega arith), omega arith)
+returns-in_default-2 c = within (λ r. r.access) None 13 2 singles refl c.args.code (omega arith) (omega arith)
 
 pub returns-in_default-3 : goal.returns-in_default-3
 unfolding row_of with_code rows row no_row values
-returns-in_default-3 c = within (λ r. r.access) None 20 236 singles refl c.args.code (omega arith) ((((((((tt, omega arith), omega arith), omega arith), omega arith), omega arith), omega arith), omega arith), omega arith)
+returns-in_default-3 c = within (λ r. r.access) None 20 236 singles refl c.args.code (omega arith) (omega arith)

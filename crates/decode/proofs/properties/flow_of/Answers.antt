@@ -48,8 +48,8 @@ returns-in-16-to-19 c = within (λ r. r.flow) Shift SHLA 4 [] refl c.args.code (
 
 pub returns-in_default : goal.returns-in_default
 unfolding row_of with_code rows row no_row values
-returns-in_default c = within (λ r. r.flow) Next 0 16 singles refl c.args.code (omega arith) (((((((tt, omega arith), omega arith), omega arith), omega arith), omega arith), omega arith), omega arith)
+returns-in_default c = within (λ r. r.flow) Next 0 16 singles refl c.args.code (omega arith) (omega arith)
 
 pub returns-in_default-2 : goal.returns-in_default-2
 unfolding row_of with_code rows row no_row values
-returns-in_default-2 c = within (λ r. r.flow) Next 20 236 singles refl c.args.code (omega arith) (((((((tt, omega arith), omega arith), omega arith), omega arith), omega arith), omega arith), omega arith)
+returns-in_default-2 c = within (λ r. r.flow) Next 20 236 singles refl c.args.code (omega arith) (omega arith)

@@ -27,4 +27,4 @@ returns-in-31 c = rw c.in-31.is
 
 pub returns-in_default : goal.returns-in_default
 unfolding row_of with_code rows row no_row values
-returns-in_default c = within (λ r. r.privilege) Anyone 0 256 (HALT ∷ RETI ∷ OUT ∷ IN ∷ []) refl c.args.code (omega arith) ((((tt, omega arith), omega arith), omega arith), omega arith)
+returns-in_default c = within (λ r. r.privilege) Anyone 0 256 (HALT ∷ RETI ∷ OUT ∷ IN ∷ []) refl c.args.code (omega arith) (omega arith)

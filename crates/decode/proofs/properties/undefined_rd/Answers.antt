@@ -39,4 +39,4 @@ returns-in-31 c = rw c.in-31.is
 
 pub returns-in_default : goal.returns-in_default
 unfolding row_of with_code rows row no_row values
-returns-in_default c = rw (← within (λ r. r.rd) register 0 256 (HALT ∷ SVC ∷ RETI ∷ RET ∷ CALL ∷ JUMP ∷ NO ∷ []) refl c.args.code (omega arith) (((((((tt, omega arith), omega arith), omega arith), omega arith), omega arith), omega arith), omega arith))
+returns-in_default c = rw (← within (λ r. r.rd) register 0 256 (HALT ∷ SVC ∷ RETI ∷ RET ∷ CALL ∷ JUMP ∷ NO ∷ []) refl c.args.code (omega arith) (omega arith))

@@ -1,4 +1,5 @@
 -- `listing::line::put_ending` meets its contract.
+use native.Mathlib.Omega.{arith}
 use borrow.Author.Tests.{ne_eqb}
 use Rattle.listing.specs.Listing.{ending_text}
 use Rattle.listing.proofs.line.put_ending.Goals as goal
@@ -18,5 +19,5 @@ returns-in-2 c = rw c.in-2.is c.put_text-in-2.ensures
 pub returns-in_default : goal.returns-in_default
 unfolding ending_text
 returns-in_default c =
-    let other = c.in_default.in_default-own.rest in
-    rw (ne_eqb _ _ other.0.0.1, ne_eqb _ _ other.0.1, ne_eqb _ _ other.1) c.put_text-in_default.ensures
+    let e = c.args.ending in
+    rw (ne_eqb e 0 (omega arith), ne_eqb e 1 (omega arith), ne_eqb e 2 (omega arith)) c.put_text-in_default.ensures

@@ -60,15 +60,15 @@ pub returns-in-3-to-19 : goal.returns-in-3-to-19
 returns-in-3-to-19 c =
     let given = c.args in
     let between = within ADD SHRL given.op.code (omega arith) (omega arith) in
-    rw (body_beside given.self given.op (((((((((((tt, omega arith), omega arith), omega arith), omega arith), omega arith), omega arith), omega arith), omega arith), omega arith), omega arith), omega arith), between, ← c.result-r.ensures)
+    rw (body_beside given.self given.op (omega arith), between, ← c.result-r.ensures)
     (rw (c.set_register-in-3-to-19.ensures, c.set_flags-in-3-to-19.ensures))
 
 pub returns-in_default : goal.returns-in_default
 returns-in_default c =
     let given = c.args in
-    rw (body_beside given.self given.op (((((((((((tt, omega arith), omega arith), omega arith), omega arith), omega arith), omega arith), omega arith), omega arith), omega arith), omega arith), omega arith), under ADD SHRL given.op.code (omega arith))
+    rw (body_beside given.self given.op (omega arith), under ADD SHRL given.op.code (omega arith))
 
 pub returns-in_default-2 : goal.returns-in_default-2
 returns-in_default-2 c =
     let given = c.args in
-    rw (body_beside given.self given.op (((((((((((tt, omega arith), omega arith), omega arith), omega arith), omega arith), omega arith), omega arith), omega arith), omega arith), omega arith), omega arith), over ADD SHRL given.op.code (omega arith))
+    rw (body_beside given.self given.op (omega arith), over ADD SHRL given.op.code (omega arith))

@@ -21,12 +21,12 @@ unfolding port_elsewhere
 returns-in-166 c = rw c.in-166.is
 
 pub returns-in-128-to-158 : goal.returns-in-128-to-158
-returns-in-128-to-158 c = rw (no_register _ _ _ {port = c.args.port} ((((tt, omega arith), omega arith), omega arith), omega arith)) c.read_entry.ensures
+returns-in-128-to-158 c = rw (no_register _ _ _ {port = c.args.port} (omega arith)) c.read_entry.ensures
 
 pub returns-in_default : goal.returns-in_default
 unfolding tlb_port
-returns-in_default c = rw (no_register _ _ _ {port = c.args.port} ((((tt, omega arith), omega arith), omega arith), omega arith), tlb_below {port = c.args.port} (omega arith))
+returns-in_default c = rw (no_register _ _ _ {port = c.args.port} (omega arith), tlb_below {port = c.args.port} (omega arith))
 
 pub returns-in_default-2 : goal.returns-in_default-2
 unfolding tlb_port
-returns-in_default-2 c = rw (no_register _ _ _ {port = c.args.port} ((((tt, omega arith), omega arith), omega arith), omega arith), tlb_above {port = c.args.port} (omega arith))
+returns-in_default-2 c = rw (no_register _ _ _ {port = c.args.port} (omega arith), tlb_above {port = c.args.port} (omega arith))

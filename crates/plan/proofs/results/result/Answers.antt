@@ -50,4 +50,4 @@ unfolding alu_of
 returns-in-19 c = rw c.in-19.is c.shrl.ensures
 
 pub returns-in_default : goal.returns-in_default
-returns-in_default c = c.shl.ensures ∙ sym (result_beside c.args.code _ _ (((((((((((tt, omega arith), omega arith), omega arith), omega arith), omega arith), omega arith), omega arith), omega arith), omega arith), omega arith), omega arith))
+returns-in_default c = c.shl.ensures ∙ sym (result_beside c.args.code _ _ (omega arith))

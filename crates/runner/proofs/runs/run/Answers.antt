@@ -46,7 +46,10 @@ shape_of-maps-in-Halted c = c.ahead-part.auto.maps ∙ c.loop-mem.invariant.3
 
 pub returns-in-Halted : goal.returns-in-Halted
 returns-in-Halted c =
-    let e = ended (at_halt (led c.loop-mem.invariant.0 c.ahead-part.ensures.goes c.loop-mem.invariant.1 c.ahead-part.ensures.bounds c.ahead-part.auto.mem) c.in-Halted.is) c.finish.ensures in
+    let e =
+    ended
+    (at_halt (led c.loop-mem.invariant.0 c.ahead-part.ensures.goes c.loop-mem.invariant.1 c.ahead-part.ensures.bounds c.ahead-part.auto.mem) c.in-Halted.is)
+    c.finish.ensures in
     record { answer = e.0; memory = e.1; kept = c.ahead-part.ensures.kept }
 
 pub shape_of-mem-in-Lost : goal.shape_of-mem-in-Lost
@@ -57,7 +60,10 @@ shape_of-maps-in-Lost c = c.ahead-part.auto.maps ∙ c.loop-mem.invariant.3
 
 pub returns-in-Lost : goal.returns-in-Lost
 returns-in-Lost c =
-    let e = ended (at_loss (led c.loop-mem.invariant.0 c.ahead-part.ensures.goes c.loop-mem.invariant.1 c.ahead-part.ensures.bounds c.ahead-part.auto.mem) c.in-Lost.is) c.finish-in-Lost.ensures in
+    let e =
+    ended
+    (at_loss (led c.loop-mem.invariant.0 c.ahead-part.ensures.goes c.loop-mem.invariant.1 c.ahead-part.ensures.bounds c.ahead-part.auto.mem) c.in-Lost.is)
+    c.finish-in-Lost.ensures in
     record { answer = e.0; memory = e.1; kept = c.ahead-part.ensures.kept }
 
 pub shape_of-mem-then-steps-allowance : goal.shape_of-mem-then-steps-allowance
@@ -68,7 +74,10 @@ shape_of-maps-then-steps-allowance c = c.ahead-part.auto.maps ∙ c.loop-mem.inv
 
 pub returns-then-steps-allowance : goal.returns-then-steps-allowance
 returns-then-steps-allowance c =
-    let e = ended (at_end (led c.loop-mem.invariant.0 c.ahead-part.ensures.goes c.loop-mem.invariant.1 c.ahead-part.ensures.bounds c.ahead-part.auto.mem) c.in-Running.is c.if-steps-allowance.true) c.finish-then-steps-allowance.ensures in
+    let e =
+    ended
+    (at_end (led c.loop-mem.invariant.0 c.ahead-part.ensures.goes c.loop-mem.invariant.1 c.ahead-part.ensures.bounds c.ahead-part.auto.mem) c.in-Running.is c.if-steps-allowance.true)
+    c.finish-then-steps-allowance.ensures in
     record { answer = e.0; memory = e.1; kept = c.ahead-part.ensures.kept }
 
 pub step-stepped-requires : goal.step-stepped-requires

@@ -1,5 +1,6 @@
 -- `word::signed::sign_extend` meets its contract: n - n / 8 * 16 is the number of a field n, in the lower half and in the upper.
-use Rattle.std.proofs.Common.{◌≡◌, ℕ, zero, suc, ◌*◌, ◌/◌, ◌%◌, ◌<◌, ◌≤◌, T, ltb, leb, pos, negsuc, ◌-ℤ◌, ◌*ℤ◌, ap, ◌∙◌, ⊎_elim, mod-lt, div-le_self, arith, ltb→lt, leb→le, w16, SFits, to_z, of_z, rules, le-ltb, lt-ltb}
+use Rattle.std.proofs.Common.{◌≡◌, ℕ, zero, suc, ◌*◌, ◌/◌, ◌%◌, ◌<◌, ◌≤◌, T, ltb, leb, pos, negsuc, ◌-ℤ◌}
+use Rattle.std.proofs.Common.{◌*ℤ◌, ap, ◌∙◌, ⊎_elim, mod-lt, div-le_self, arith, ltb→lt, leb→le, w16, SFits, to_z, of_z, rules, le-ltb, lt-ltb}
 use lib.Signed.{quot_z}
 use mir.ValLaws.{to_z-of_z, to_z_pos}
 use Rattle.word.specs.Laws.{order, signed4_high, signed4_low}

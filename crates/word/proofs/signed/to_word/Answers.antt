@@ -1,5 +1,6 @@
 -- `word::signed::to_word` meets its contract: x + 65536 is above 0, and modulo 65536 it has the bits of x.
-use Rattle.std.proofs.Common.{◌≡◌, ℕ, suc, ◌+◌, ◌-◌, ◌%◌, ◌<◌, T, ltb, leb, ℤ, pos, negsuc, ◌+ℤ◌, nat_abs, refl, mod-lt, arith, ltb→lt, leb→le, w16, w32, Fits, SFits, to_z, of_z, le-ltb}
+use Rattle.std.proofs.Common.{◌≡◌, ℕ, suc, ◌+◌, ◌-◌, ◌%◌, ◌<◌, T, ltb, leb, ℤ, pos, negsuc}
+use Rattle.std.proofs.Common.{◌+ℤ◌, nat_abs, refl, mod-lt, arith, ltb→lt, leb→le, w16, w32, Fits, SFits, to_z, of_z, le-ltb}
 use lib.Signed.{non_neg, rem_z}
 use mir.ValLaws.{to_z-of_z, to_z_pos}
 use Rattle.word.specs.Signed.{word}
