@@ -1,6 +1,6 @@
 -- A listing of the program is never cut, and the program refuses a card for what the card itself has.
 -- Assumes nothing.
-use Rattle.std.specs.Prelude.{List, ◌++◌, refl, ◌≡◌, min, ℕ, ◌*◌, ◌≤◌, drop, length, take}
+use Rattle.std.specs.Prelude.{List, ◌++◌, refl, ◌≡◌, min, ℕ, ◌*◌, ◌≤◌, drop, length, take, Err, Ok}
 use Rattle.std.proofs.Common.{ap, sym, ◌∙◌, arith, le-leb, take_all, take_at}
 use Rattle.std.proofs.Math.Nat.{min-eq_left}
 use Rattle.std.proofs.Math.ListN.{length-replicate}
@@ -10,9 +10,7 @@ use Rattle.card.specs.Laws.{part_short}
 use Rattle.command.specs.Laws.{runs_bound}
 use Rattle.layout.specs.Valid.{all_zeros, control_good, count_good, flag_good, good_image, pending_good, timer_good, zeros_good}
 use Rattle.call.specs.Valid.{image_valid, machine_valid, memory_valid, report_fits}
-use Rattle.refusal.specs.Refusal.{and_then}
-use Rattle.refusal.specs.declared.Validity.{Validity}
-use Rattle.refusal.specs.declared.Validity.TheVariants.{Good, Refused}
+use Rattle.refusal.specs.Refusal.{Validity, and_then}
 use Rattle.listing.specs.Laws.{listing_bound}
 use Rattle.listing.specs.Listing.{listing_of, over}
 use Rattle.report.specs.Layout.{report_size}
@@ -46,20 +44,17 @@ module _ (card before after : List ℕ) (v : Validity) (count : ℕ) (part : Lis
       ∙ ap (over before) listing_is
       ∙ ap (λ (bytes : List ℕ). bytes ++ drop (length (bench_of card)) before) (take_all (length before) (bench_of card) (omega (arith, bench_short card)))
 
-  text_is : take count after ≡ bench_of card
-  text_is = ap (take count) after_is ∙ take_at (bench_of card) (drop (length (bench_of card)) before) count (sym count_is)
+  pub written : take count after ≡ bench_of card
+  written = ap (take count) after_is ∙ take_at (bench_of card) (drop (length (bench_of card)) before) count (sym count_is)
 
-  pub written : (count ≡ length (bench_of card)) × ((take count after ≡ bench_of card) × (count ≤ 65536))
-  written = (count_is, (text_is, omega (arith, count_is, bench_short card)))
-
-first_good : (long : ℕ) → long ≡ 65536 → machine_valid long first_image ≡ Good
+first_good : (long : ℕ) → long ≡ 65536 → machine_valid long first_image ≡ Ok tt
 unfolding memory_valid image_valid good_image flag_good pending_good all_zeros zeros_good timer_good count_good control_good
 first_good long e = rw e refl
 
 report_enough : (v : Validity) (needed long : ℕ) → needed ≤ long → and_then v (report_fits long needed) ≡ v
 unfolding report_fits
-report_enough (Refused r) needed long h = refl
-report_enough Good needed long h = rw (le-leb needed long h)
+report_enough (Err r) needed long h = refl
+report_enough (Ok u) needed long h = rw (le-leb needed long h)
 
 -- memory, image and report are good, so a card is refused only for itself
 pub bench_validity : (card : List ℕ) → card_valid (length zero_memory) first_image card (length zero_report) ≡ (reading_of card).validity

@@ -2,11 +2,14 @@
 -- one of eight numbered refusals with memory, state and report untouched"; document 02, 5/14: "Demand 1's list and the table take each new
 -- refusal, with P=0 and every lent buffer as it was".
 -- Assumes nothing.
-use Rattle.std.specs.Prelude.{List, ℕ}
-use Rattle.refusal.specs.declared.Validity.{Validity}
-use Rattle.refusal.specs.declared.Validity.TheVariants.{Good, Refused}
-use Rattle.call.specs.declared.Answer.{Answer}
-use Rattle.call.specs.declared.Answer.TheVariants as answer
+use Rattle.std.specs.Prelude.{List, ℕ, Err, Ok, Result}
+use Rattle.std.specs.Result.{result_unwrap_or}
+use Rattle.refusal.specs.Refusal.{Validity}
+use Rattle.refusal.specs.declared.Refusal.{Refusal}
+
+-- what a call answers: the number that it gives, or a refusal
+abbrev pub Answer : Type 0
+Answer = Result ℕ Refusal
 
 -- the answer, of type A, and what was lent, as the call leaves it: buffers and numbers, in a type B for each kind of call
 pub record Called (A B : Type 0) : Type 0 where
@@ -18,8 +21,8 @@ called answer lent = record { answer = answer; lent = lent }
 
 -- A call is its tests and what it does. Refused, it answers the refusal, and what was lent is as `before` has it: "Left as it was".
 abbrev pub unless_refused : {B : Type 0} → Validity → B → Called Answer B → Called Answer B
-unless_refused (Refused r) before done = called (answer.Refused r) before
-unless_refused Good before done = done
+unless_refused (Err r) before done = called (Err r) before
+unless_refused (Ok u) before done = done
 
 -- what a run, a card and a view are lent, but for the card
 pub record Buffers : Type 0 where
@@ -35,5 +38,4 @@ Call = Called Answer Buffers
 
 -- the number that a call gives, or 0 if it is refused
 abbrev pub given_by : Answer → ℕ
-given_by (answer.Refused r) = 0
-given_by (answer.Done n) = n
+given_by answer = result_unwrap_or answer 0

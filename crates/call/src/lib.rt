@@ -6,9 +6,5 @@ mod validity;
 use refusal::Refusal;
 pub use validity::{report_fits, validate_image, validate_machine, validate_run};
 
-// Refused, and why; or done, with the number that the call gives, which each call says.
-#[derive(Clone, Copy)]
-pub enum Answer {
-    Refused(Refusal),
-    Done(u32),
-}
+// The number that the call gives, which each call says; or why it is refused.
+pub type Answer = Result<u32, Refusal>;

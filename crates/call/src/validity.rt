@@ -3,61 +3,51 @@ ghost use Rattle.std.specs.Prelude.{◌≡◌};
 ghost use Rattle.call.specs.Valid as def;
 
 use layout::IMAGE;
-use refusal::{Cause, Validity, and_then, refused};
+use refusal::{Cause, Validity, good_if, refused};
 use report::REPORT;
 
 // Bytes of memory.
 const MEMORY: usize = 65536;
 
 // Refusal 1.
+#[tactic(auto, unfolding(crate::specs::Valid::memory_valid))]
 fn validate_memory(memory: usize) -> Validity
     ensures { result ≡ def.memory_valid memory }
 {
-    if memory != MEMORY {
-        return refused(Cause::MemoryLength);
-    }
-    Validity::Good
+    good_if(memory == MEMORY, Cause::MemoryLength)
 }
 
 // Refusals 2 and 3.
+#[tactic(auto, unfolding(crate::specs::Valid::image_valid))]
 pub fn validate_image(image: &[u8]) -> Validity
     ensures { result ≡ def.image_valid image.now }
 {
-    if image.len() != IMAGE {
+    let Some(image) = image.as_array::<IMAGE>() else {
         return refused(Cause::ImageLength);
-    }
-    if layout::good_image(image) {
-        Validity::Good
-    } else {
-        refused(Cause::ImageField)
-    }
+    };
+    good_if(layout::good_image(image), Cause::ImageField)
 }
 
 // Refusals 1 to 3.
 pub fn validate_machine(memory: usize, image: &[u8]) -> Validity
     ensures { result ≡ def.machine_valid memory image.now }
 {
-    let first = validate_memory(memory);
-    let second = validate_image(image);
-    and_then(first, second)
+    validate_memory(memory)?;
+    validate_image(image)
 }
 
 // Refusal 8: a report of this length has room for the bytes needed.
+#[tactic(auto, unfolding(crate::specs::Valid::report_fits))]
 pub fn report_fits(length: usize, needed: usize) -> Validity
     ensures { result ≡ def.report_fits length needed }
 {
-    if needed <= length {
-        Validity::Good
-    } else {
-        refused(Cause::ReportLength)
-    }
+    good_if(needed <= length, Cause::ReportLength)
 }
 
 // The tests of a run and of a view.
 pub fn validate_run(memory: usize, image: &[u8], report: usize) -> Validity
     ensures { result ≡ def.run_valid memory image.now report }
 {
-    let machine = validate_machine(memory, image);
-    let fits = report_fits(report, REPORT);
-    and_then(machine, fits)
+    validate_machine(memory, image)?;
+    report_fits(report, REPORT)
 }

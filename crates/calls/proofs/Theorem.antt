@@ -1,6 +1,6 @@
 -- Demand 3 on calls: `Isolation`, of two runs, carried over to the buffers of two calls.
 -- Assumes nothing.
-use Rattle.std.specs.Prelude.{Bool, false, true, ◌⊎◌, ◌≡◌, ℕ, ◌%◌, ◌+◌, ◌/◌, eqb, length, set}
+use Rattle.std.specs.Prelude.{Bool, false, true, ◌⊎◌, ◌≡◌, ℕ, ◌%◌, ◌+◌, ◌/◌, eqb, length, set, Err, Ok}
 use mathlib.Core.List.{List, ◌++◌}
 use Rattle.std.proofs.Math.Logic.{inl, inr, ⊎_elim}
 use Rattle.std.proofs.Math.Path.{ap, refl, sym}
@@ -22,7 +22,6 @@ use Rattle.machine.specs.declared.Ending.TheVariants as ending
 use Rattle.machine.specs.declared.State.{State}
 use Rattle.memory.specs.Memory.{word_at}
 use Rattle.refusal.specs.declared.Refusal.{Refusal}
-use Rattle.refusal.specs.declared.Validity.TheVariants.{Good, Refused}
 use Rattle.report.specs.Layout.{report_size}
 use Rattle.report.specs.Report.{report_of}
 use Rattle.roundtrip.proofs.Good.{image_long_lem, rejoined, spelled_out_lem, spelled_out, word_back}
@@ -142,12 +141,12 @@ module _ (m m' b : List ℕ) (n : ℕ) (rep : List ℕ) (long : length m ≡ len
   st = state_from b
 
   refuses :
-      (r : Refusal) → run_valid (length m) b (length rep) ≡ Refused r
+      (r : Refusal) → run_valid (length m) b (length rep) ≡ Err r
       → (run_call m b n rep ≡ refused_call r m b rep) × (run_call m' b n rep ≡ refused_call r m' b rep)
   unfolding run_call
   refuses r e = (refused_leaves (buffers m b rep) _ _ r e, refused_leaves (buffers m' b rep) _ _ r (rw long at e))
 
-  shares : run_valid (length m) b (length rep) ≡ Good → Given m m' b → Shared m m' b (run_call m b n rep) (run_call m' b n rep)
+  shares : run_valid (length m) b (length rep) ≡ Ok tt → Given m m' b → Shared m m' b (run_call m b n rep) (run_call m' b n rep)
   unfolding run_call
   shares e g =
       rw (← long, e)

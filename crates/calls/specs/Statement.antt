@@ -1,7 +1,7 @@
 -- Demand 3 on calls. A run is called with a memory, an image, an allowance and a report; `run_call` (direct/Call), the contract of `tac_run`, says
 -- what it answers and what it leaves in them. `isolated_calls`: two such calls that differ in the memory alone are `Together`.
 -- Assumes nothing.
-use Rattle.std.specs.Prelude.{false, List, ◌⊎◌, ◌≡◌, ℕ, ◌+◌, get_or, length}
+use Rattle.std.specs.Prelude.{false, List, ◌⊎◌, ◌≡◌, ℕ, ◌+◌, get_or, length, Err, Ok}
 use Rattle.image.specs.Decode.{state_from}
 use Rattle.layout.specs.Layout.{image_size, pc_at, ssp_at}
 use Rattle.isolation.specs.Statement.{Alike, Pushed, UserMode, has_right}
@@ -11,9 +11,7 @@ use Rattle.machine.specs.declared.Ending.TheVariants as ending
 use Rattle.memory.specs.Memory.{word_at}
 use Rattle.mmu.specs.declared.Right.TheVariants.{Write}
 use Rattle.call.specs.Call.{Call, buffers, called}
-use Rattle.call.specs.declared.Answer.TheVariants as answer
 use Rattle.refusal.specs.declared.Refusal.{Refusal}
-use Rattle.refusal.specs.declared.Validity.TheVariants.{Good, Refused}
 use Rattle.report.specs.Layout.{ending_at, number_at}
 use Rattle.roundtrip.specs.Statement.{Bytes}
 use Rattle.direct.specs.Call.{run_call}
@@ -39,7 +37,7 @@ AtHandler c = word_from c.lent.image pc_at ≡ word_at c.lent.memory (vector_of 
 
 -- demand 1: "one of eight numbered refusals with memory, state and report untouched"
 abbrev pub refused_call : Refusal → List ℕ → List ℕ → List ℕ → Call
-refused_call r m b rep = called (answer.Refused r) (buffers m b rep)
+refused_call r m b rep = called (Err r) (buffers m b rep)
 
 -- ---- two calls, on the memories m and m', with the image b
 
@@ -80,8 +78,8 @@ pub record Shared (m m' b : List ℕ) (c c' : Call) : Type 0 where
 
 -- the tests of a call see the memory's length alone, so both are refused alike, each leaving every buffer as it was, or both pass
 pub record Together (m m' b rep : List ℕ) (c c' : Call) : Type 0 where
-  pub refused : (r : Refusal) → run_valid (length m) b (length rep) ≡ Refused r → (c ≡ refused_call r m b rep) × (c' ≡ refused_call r m' b rep)
-  pub passed : run_valid (length m) b (length rep) ≡ Good → Given m m' b → Shared m m' b c c'
+  pub refused : (r : Refusal) → run_valid (length m) b (length rep) ≡ Err r → (c ≡ refused_call r m b rep) × (c' ≡ refused_call r m' b rep)
+  pub passed : run_valid (length m) b (length rep) ≡ Ok tt → Given m m' b → Shared m m' b c c'
 
 abbrev pub IsolatedCalls : Type 0
 IsolatedCalls =

@@ -1,16 +1,13 @@
 -- The tests of a card's call, and what it answers and leaves in the lent buffers.
 -- Assumes nothing.
-use Rattle.std.specs.Prelude.{List, [], ◌++◌, ℕ, ◌*◌, drop, length}
+use Rattle.std.specs.Prelude.{List, [], ◌++◌, ℕ, ◌*◌, drop, length, Err, Ok}
 use Rattle.call.specs.Call.{Call, buffers, called, unless_refused}
 use Rattle.call.specs.Valid.{machine_valid, report_fits}
-use Rattle.call.specs.declared.Answer.TheVariants.{Done}
 use Rattle.command.specs.Card.{reading_of, runs_in}
 use Rattle.command.specs.declared.Command.{Command}
 use Rattle.image.specs.Decode.{state_from}
 use Rattle.image.specs.Image.{image_of}
-use Rattle.refusal.specs.Refusal.{and_then}
-use Rattle.refusal.specs.declared.Validity.{Validity}
-use Rattle.refusal.specs.declared.Validity.TheVariants.{Good, Refused}
+use Rattle.refusal.specs.Refusal.{Validity, and_then}
 use Rattle.report.specs.Layout.{report_size}
 use Rattle.card.specs.Effect.{Effect, execute_of}
 
@@ -22,7 +19,7 @@ card_valid long image card report =
 
 -- given is the number of report bytes filled, 12 × runs; "bytes behind it keep their values"
 abbrev pub executed_call : ℕ → Effect → List ℕ → Call
-executed_call filled p rep = called (Done filled) (buffers p.memory (image_of p.state) (p.reports ++ drop filled rep))
+executed_call filled p rep = called (Ok filled) (buffers p.memory (image_of p.state) (p.reports ++ drop filled rep))
 
 -- a card
 unfoldable pub card_call : List ℕ → List ℕ → List ℕ → List ℕ → Call
@@ -32,8 +29,8 @@ card_call m b card rep =
     (executed_call (report_size * runs_in commands) (execute_of commands (state_from b) m) rep)
 
 abbrev pub if_good : Validity → List ℕ → List ℕ
-if_good (Refused r) bytes = []
-if_good Good bytes = bytes
+if_good (Err r) bytes = []
+if_good (Ok u) bytes = bytes
 
 -- "The filled front part of the caller's report is handed back, empty on a refusal"
 unfoldable pub filled_part : List ℕ → List ℕ → List ℕ → List ℕ → List ℕ

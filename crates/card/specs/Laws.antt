@@ -1,15 +1,13 @@
 -- Laws of the definitions of a card.
 -- Assumes nothing.
-use Rattle.std.specs.Prelude.{List, [], ◌++◌, ◌∷◌, refl, ◌≡◌, ℕ, ◌*◌, ◌+◌, ◌≤◌, length, take}
+use Rattle.std.specs.Prelude.{List, [], ◌++◌, ◌∷◌, refl, ◌≡◌, ℕ, ◌*◌, ◌≤◌, length, take, Err, Ok}
 use Rattle.std.proofs.Common.{ap, sym, ◌∙◌, arith, length-append, length-take-le, take_at}
-use Rattle.call.specs.Call.{Buffers, Call, buffers, called, given_by, unless_refused}
-use Rattle.call.specs.declared.Answer.{Answer}
+use Rattle.call.specs.Call.{Answer, Buffers, Call, buffers, called, given_by, unless_refused}
 use Rattle.image.specs.Decode.{state_from}
 use Rattle.endian.specs.Bytes.{word_bytes}
 use Rattle.report.specs.Layout.{report_size}
 use Rattle.report.specs.Report.{report_of}
-use Rattle.refusal.specs.declared.Validity.{Validity}
-use Rattle.refusal.specs.declared.Validity.TheVariants.{Good, Refused}
+use Rattle.refusal.specs.Refusal.{Validity}
 use Rattle.machine.specs.declared.State.{State}
 use Rattle.card.specs.Call.{card_call, card_valid, executed_call, filled_part, if_good}
 use Rattle.command.specs.Card.{is_run, reading_of, runs_in}
@@ -53,8 +51,8 @@ call_by v m b rep n p = unless_refused v (buffers m b rep) (executed_call n p re
 handed_by :
     (v : Validity) (m b rep : List ℕ) (n : ℕ) (p : Effect) → length p.reports ≡ n → let c : Call = call_by v m b rep n p in
     (given_by c.answer ≤ length c.lent.report) × (take (given_by c.answer) c.lent.report ≡ if_good v p.reports)
-handed_by (Refused r) m b rep n p e = (omega arith, refl)
-handed_by Good m b rep n p e = in_front p.reports _ n e
+handed_by (Err r) m b rep n p e = (omega arith, refl)
+handed_by (Ok u) m b rep n p e = in_front p.reports _ n e
 
 -- the part that the answer says is filled is within the report, and holds the reports
 module _ (m b card rep : List ℕ) where
@@ -81,8 +79,8 @@ module _ (m b card rep : List ℕ) where
     part_holds = rw (given_is, report_is) handed.1
 
 part_short_by : (v : Validity) (bytes : List ℕ) (n : ℕ) → length bytes ≤ n → length (if_good v bytes) ≤ n
-part_short_by (Refused r) bytes n h = omega arith
-part_short_by Good bytes n h = h
+part_short_by (Err r) bytes n h = omega arith
+part_short_by (Ok u) bytes n h = h
 
 -- a part holds at most 1,365 reports
 pub part_short : (m b card rep : List ℕ) → length (filled_part m b card rep) ≤ 16380

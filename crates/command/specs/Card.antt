@@ -1,16 +1,12 @@
 -- A bench card as a list of commands, and its tests. Document 01: "A card is tested whole before its first command acts."; "An empty card is
 -- good."; the table of refusals, 4 to 7.
 -- Assumes nothing.
-use Rattle.std.specs.Prelude.{cond, List, [], ◌∷◌, suc, zero, ℕ, ◌+◌, leb, drop, length}
-use Rattle.refusal.specs.Refusal.{refused}
+use Rattle.std.specs.Prelude.{cond, List, [], ◌∷◌, suc, zero, ℕ, ◌+◌, leb, drop, length, Err, None, Ok, Some}
+use Rattle.refusal.specs.Refusal.{Validity, refused}
 use Rattle.refusal.specs.declared.Cause.TheVariants.{CardLength}
-use Rattle.refusal.specs.declared.Validity.{Validity}
-use Rattle.refusal.specs.declared.Validity.TheVariants.{Good, Refused}
-use Rattle.command.specs.Command.{parsed_of}
+use Rattle.command.specs.Command.{Standing, parsed_of}
 use Rattle.command.specs.declared.Command.{Command}
 use Rattle.command.specs.declared.Command.TheVariants.{Byte, Entry, Flag, Lines, Mmu, Register, Run, Time}
-use Rattle.command.specs.declared.Parsed.{Parsed}
-use Rattle.command.specs.declared.Parsed.TheVariants.{Bad, End, Next}
 
 -- the most bytes that a card has
 abbrev pub card_size : ℕ
@@ -25,14 +21,14 @@ abbrev pub reading : List Command → Validity → Reading
 reading xs v = record { commands = xs; validity = v }
 
 -- what stands at a position, and what is read from the next one on
-abbrev pub read_by : Parsed → (ℕ → Reading) → Reading
-read_by End rest = reading [] Good
-read_by (Bad r) rest = reading [] (Refused r)
-read_by (Next x next) rest = reading (x ∷ (rest next).commands) (rest next).validity
+abbrev pub read_by : Standing → (ℕ → Reading) → Reading
+read_by (Ok None) rest = reading [] (Ok tt)
+read_by (Err r) rest = reading [] (Err r)
+read_by (Ok (Some p)) rest = reading (p.command ∷ (rest p.next).commands) (rest p.next).validity
 
 -- at most `n` commands from position `at` on
 unfoldable pub read_at_most : ℕ → List ℕ → ℕ → Reading
-read_at_most zero card at = reading [] Good
+read_at_most zero card at = reading [] (Ok tt)
 read_at_most (suc n) card at = read_by (parsed_of at (drop at card)) (read_at_most n card)
 
 -- the commands from position `at` on: a card has no more commands than bytes

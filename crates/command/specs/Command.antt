@@ -3,7 +3,7 @@
 -- 0-7 (1), bits(3); 06 MMU 0/1 (1); 07 FLAG(2). Lines, FLAG and entry bits are bounded as in refusal 3." Document 02, 2/14:
 -- "Card command 08 with a two-byte number of milliseconds".
 -- Assumes nothing.
-use Rattle.std.specs.Prelude.{Bool, cond, ◌&&◌, List, ℕ, ◌+◌, eqb, leb, ltb, length}
+use Rattle.std.specs.Prelude.{Bool, cond, ◌&&◌, List, ℕ, ◌+◌, eqb, leb, ltb, length, Err, None, Ok, Option, Result, Some}
 use Rattle.layout.specs.Entries.{entry_from}
 use Rattle.layout.specs.Valid.{flag_good, pending_good, zeros_good}
 use Rattle.refusal.specs.declared.Cause.{Cause}
@@ -12,7 +12,7 @@ use Rattle.endian.specs.Bytes.{byte_from, word_from}
 use Rattle.command.specs.declared.Command.{Command}
 use Rattle.command.specs.declared.Command.TheVariants.{Byte, Entry, Flag, Lines, Mmu, Register, Run, Time}
 use Rattle.command.specs.declared.Parsed.{Parsed}
-use Rattle.command.specs.declared.Parsed.TheVariants.{Bad, End, Next}
+use Rattle.refusal.specs.declared.Refusal.{Refusal}
 
 -- the commands' bytes
 abbrev pub byte_command : ℕ
@@ -85,16 +85,31 @@ command_of n b =
     (cond (eqb n flag_command) (Flag (word_from b 1))
     (Time (word_from b 1))))))))
 
+-- what stands at a position of a card
+abbrev pub Standing : Type 0
+Standing = Result (Option Parsed) Refusal
+
+-- nothing: the card ends there
+abbrev pub ends : Standing
+ends = Ok None
+
+-- a command, and the position of the next
+abbrev pub reads : Command → ℕ → Standing
+reads x next = Ok (Some (record { command = x; next = next }))
+
 -- a bad command, by its cause and its place
-abbrev pub bad : Cause → ℕ → Parsed
-bad cause at = Bad (record { cause = cause; place = at })
+abbrev pub refusal : Cause → ℕ → Refusal
+refusal cause at = record { cause = cause; place = at }
+
+abbrev pub bad : Cause → ℕ → Standing
+bad cause at = Err (refusal cause at)
 
 -- What stands at position `at` of a card, `b` being the card from there on. "first bad command: unknown byte", "its operands cut short",
 -- "its operand beyond its values": the causes in this order, each with the position of the command's first byte.
-unfoldable pub parsed_of : ℕ → List ℕ → Parsed
+unfoldable pub parsed_of : ℕ → List ℕ → Standing
 parsed_of at b =
-    cond (eqb (length b) 0) End
+    cond (eqb (length b) 0) ends
     (cond (eqb (operands_of (byte_from b 0)) 0) (bad CommandUnknown at)
     (cond (leb (length b) (operands_of (byte_from b 0))) (bad CommandShort at)
-    (cond (good_of (byte_from b 0) b) (Next (command_of (byte_from b 0) b) (at + (1 + operands_of (byte_from b 0))))
+    (cond (good_of (byte_from b 0) b) (reads (command_of (byte_from b 0) b) (at + (1 + operands_of (byte_from b 0))))
     (bad CommandBeyond at))))

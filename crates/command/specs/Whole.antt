@@ -2,14 +2,13 @@
 -- Assumes nothing.
 use Rattle.std.specs.Prelude.{Bool, cond, false, true, List, ◌≡◌, ℕ, ◌+◌, ◌<◌, eqb, leb, length}
 use Rattle.std.proofs.Math.Path.{refl}
-use Rattle.std.proofs.Common.{arith}
+use Rattle.std.proofs.Common.{ap, arith}
 use borrow.Author.Tests.{eqb-false, eqb-true, leb-false, lt-leb, ne_eqb}
 use Rattle.refusal.specs.declared.Cause.TheVariants.{CommandBeyond, CommandShort, CommandUnknown}
 use Rattle.endian.specs.Bytes.{byte_from}
-use Rattle.command.specs.Command.{bad, command_of, good_of, operands_of, parsed_of}
+use Rattle.command.specs.Command.{Standing, bad, command_of, ends, good_of, operands_of, parsed_of, reads}
 use Rattle.command.specs.declared.Command.{Command}
 use Rattle.command.specs.declared.Parsed.{Parsed}
-use Rattle.command.specs.declared.Parsed.TheVariants.{End, Next}
 
 -- ---- a whole command
 
@@ -22,29 +21,37 @@ pub record Whole (at : ℕ) (b : List ℕ) (x : Command) (next : ℕ) : Type 0 w
   pub on : at + (1 + operands_of (byte_from b 0)) ≡ next
 
 module _ (at : ℕ) (b : List ℕ) where
-  abbrev pub picked : Bool → Bool → Bool → Bool → Parsed
+  abbrev pub picked : Bool → Bool → Bool → Bool → Standing
   picked t u v w =
-      cond t End
+      cond t ends
       (cond u (bad CommandUnknown at)
       (cond v (bad CommandShort at)
-      (cond w (Next (command_of (byte_from b 0) b) (at + (1 + operands_of (byte_from b 0)))) (bad CommandBeyond at))))
+      (cond w (reads (command_of (byte_from b 0) b) (at + (1 + operands_of (byte_from b 0)))) (bad CommandBeyond at))))
 
   whole_by :
       (x : Command) (next : ℕ) (t u v w : Bool) → eqb (operands_of (byte_from b 0)) 0 ≡ u → leb (length b) (operands_of (byte_from b 0)) ≡ v
-      → good_of (byte_from b 0) b ≡ w → picked t u v w ≡ Next x next → Whole at b x next
+      → good_of (byte_from b 0) b ≡ w → picked t u v w ≡ reads x next → Whole at b x next
   whole_by x next true u v w eu ev ew e = let z : ◌≡◌ {A = ℕ} 0 1 = cc in absurd (omega arith)
   whole_by x next false true v w eu ev ew e = let z : ◌≡◌ {A = ℕ} 0 1 = cc in absurd (omega arith)
   whole_by x next false false true w eu ev ew e = let z : ◌≡◌ {A = ℕ} 0 1 = cc in absurd (omega arith)
   whole_by x next false false false true eu ev ew e =
       let o : operands_of (byte_from b 0) ≡ 0 → ⊥ = eqb-false _ _ eu in
-      record { known = omega arith; within = leb-false _ _ ev; good = ew; is = cc; on = cc }
+      let p : ◌≡◌ {A = Parsed} (record { command = command_of (byte_from b 0) b; next = at + (1 + operands_of (byte_from b 0)) })
+      (record { command = x; next = next }) = cc in
+      record {
+        known = omega arith;
+        within = leb-false _ _ ev;
+        good = ew;
+        is = ap (λ (q : Parsed). q.command) p;
+        on = ap (λ (q : Parsed). q.next) p;
+      }
   whole_by x next false false false false eu ev ew e = let z : ◌≡◌ {A = ℕ} 0 1 = cc in absurd (omega arith)
 
-  pub whole : (x : Command) (next : ℕ) → parsed_of at b ≡ Next x next → Whole at b x next
+  pub whole : (x : Command) (next : ℕ) → parsed_of at b ≡ reads x next → Whole at b x next
   unfolding parsed_of
   whole x next e = whole_by x next (eqb (length b) 0) _ _ _ refl refl refl e
 
-  ended_by : (t u v w : Bool) → eqb (length b) 0 ≡ t → picked t u v w ≡ End → length b ≡ 0
+  ended_by : (t u v w : Bool) → eqb (length b) 0 ≡ t → picked t u v w ≡ ends → length b ≡ 0
   ended_by true u v w et e = eqb-true _ _ et
   ended_by false true v w et e = let z : ◌≡◌ {A = ℕ} 0 1 = cc in absurd (omega arith)
   ended_by false false true w et e = let z : ◌≡◌ {A = ℕ} 0 1 = cc in absurd (omega arith)
@@ -52,7 +59,7 @@ module _ (at : ℕ) (b : List ℕ) where
   ended_by false false false false et e = let z : ◌≡◌ {A = ℕ} 0 1 = cc in absurd (omega arith)
 
   -- only nothing is the end
-  pub ended : parsed_of at b ≡ End → length b ≡ 0
+  pub ended : parsed_of at b ≡ ends → length b ≡ 0
   unfolding parsed_of
   ended e =
       ended_by (eqb (length b) 0) (eqb (operands_of (byte_from b 0)) 0) (leb (length b) (operands_of (byte_from b 0))) (good_of (byte_from b 0) b)
@@ -61,7 +68,7 @@ module _ (at : ℕ) (b : List ℕ) where
   -- the tests make a whole command
   pub parsed :
       (n : ℕ) → byte_from b 0 ≡ n → 0 < operands_of n → operands_of n < length b → good_of n b ≡ true
-      → parsed_of at b ≡ Next (command_of n b) (at + (1 + operands_of n))
+      → parsed_of at b ≡ reads (command_of n b) (at + (1 + operands_of n))
   unfolding parsed_of
   parsed n e known within good =
       rw (

@@ -1,10 +1,12 @@
 // The commands of a bench card: what stands at a position of a card.
 #![tactic(auto)]
 
+mod commands;
+mod kind;
 mod parser;
 
+pub use commands::Commands;
 pub use parser::parse;
-use refusal::Refusal;
 
 // A command of a card, with its operands.
 #[derive(Clone, Copy)]
@@ -27,13 +29,9 @@ pub enum Command {
     Time(u16),
 }
 
-// What stands at a position of a card.
+// A command that stands at a position of a card, and the position of the next.
 #[derive(Clone, Copy)]
-pub enum Parsed {
-    // Nothing: the card ends there.
-    End,
-    // A command, and the position of the next.
-    Next(Command, usize),
-    // A bad command, with its place.
-    Bad(Refusal),
+pub struct Parsed {
+    pub command: Command,
+    pub next: usize,
 }

@@ -14,8 +14,7 @@ use Rattle.decode.specs.Entry.{entry_of, table_from, table_of}
 use Rattle.decode.specs.Instructions.{add_states, div_states, eight, row, rows, shift_states, single}
 use Rattle.decode.specs.Opcode.{cost_of, in_modes, in_rows, mode_bits, opcode_of, states_at}
 use Rattle.decode.specs.Properties.{row_of, with_code}
-use Rattle.decode.specs.declared.First.{First}
-use Rattle.decode.specs.declared.First.TheVariants.{Defined, Undefined}
+use Rattle.std.specs.Prelude.{Option, None, Some}
 use Rattle.decode.specs.declared.Shape.{Shape}
 use Rattle.decode.proofs.Rows.{same, values}
 
@@ -35,9 +34,9 @@ shape_entry e w =
     }
 
 -- what it makes of the word
-abbrev pub first_entry : ℕ → ℕ → First
+abbrev pub first_entry : ℕ → ℕ → Option Shape
 first_entry e w =
-    cond (eqb e 0x1e0) Undefined (cond (rd_bad (row_of (e % 32)).rd (rd_field w)) Undefined (Defined (shape_entry e w)))
+    cond (eqb e 0x1e0) None (cond (rd_bad (row_of (e % 32)).rd (rd_field w)) None (Some (shape_entry e w)))
 
 -- each of the 256 entries says what the rules say, whatever the word
 by_byte : (w k : ℕ) → k < 256 → first_in (opcode_of k) w ≡ first_entry (entry_of k) w

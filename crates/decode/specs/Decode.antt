@@ -1,13 +1,11 @@
 -- The decoding of an instruction word. Document 01, "Instruction words".
 -- Assumes nothing.
-use Rattle.std.specs.Prelude.{Bool, cond, false, ℕ, ◌%◌, ◌/◌, eqb, ltb, pos, ◌*ℤ◌}
+use Rattle.std.specs.Prelude.{Bool, cond, false, ℕ, ◌%◌, ◌/◌, eqb, ltb, pos, ◌*ℤ◌, Option, None, Some}
 use Rattle.jump.specs.Jump.{condition_undefined}
 use Rattle.word.specs.Signed.{signed4}
 use Rattle.word.specs.Word.{upper}
 use Rattle.decode.specs.Instructions.{RdUse, Row, condition, register, unused}
 use Rattle.decode.specs.Opcode.{Opcode, cost_of, known, opcode_of, unknown}
-use Rattle.decode.specs.declared.First.{First}
-use Rattle.decode.specs.declared.First.TheVariants.{Defined, Undefined}
 use Rattle.decode.specs.declared.Instruction.{Instruction}
 use Rattle.decode.specs.declared.Operand.{Operand}
 use Rattle.decode.specs.declared.Operand.TheVariants.{ByteIndirect, Direct, Frame, Immediate, Indexed, Indirect, Nothing, Register, Short}
@@ -46,12 +44,12 @@ shape_of r mode w =
       flow = r.flow;
     }
 
-abbrev pub first_in : Opcode → ℕ → First
-first_in unknown w = Undefined
-first_in (known r mode) w = cond (rd_bad r.rd (rd_field w)) Undefined (Defined (shape_of r mode w))
+abbrev pub first_in : Opcode → ℕ → Option Shape
+first_in unknown w = None
+first_in (known r mode) w = cond (rd_bad r.rd (rd_field w)) None (Some (shape_of r mode w))
 
--- what the first word of an instruction says
-unfoldable pub first_of : ℕ → First
+-- what the first word of an instruction says, and nothing of one that is undefined
+unfoldable pub first_of : ℕ → Option Shape
 first_of w = first_in (opcode_of (upper w)) w
 
 -- "0 direct [Dsp], 1 indexed [Dsp+Rx], 2 immediate, 3 [FP + 2 × D4], 4 register, 5 four-bit immediate, 6 [Rx], 7 byte at [Rx]".

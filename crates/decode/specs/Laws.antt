@@ -1,7 +1,7 @@
 -- Laws of the decoding: what a test says of every row in each of its modes holds of each first byte and of each defined first word. One such
 -- test: an instruction for anyone is none that a privilege guards.
 -- Assumes nothing.
-use Rattle.std.specs.Prelude.{Bool, not, true, ◌&&◌, ◌||◌, refl, ◌≡◌, ℕ, ◌+◌, eqb}
+use Rattle.std.specs.Prelude.{Bool, not, true, ◌&&◌, ◌||◌, refl, ◌≡◌, ℕ, ◌+◌, eqb, Option, None, Some}
 use mathlib.Core.List.{List, [], ◌∷◌}
 use Rattle.std.proofs.Math.Path.{subst}
 use Rattle.std.proofs.Common.{sym}
@@ -9,10 +9,8 @@ use Rattle.word.specs.Cases.{either, rest, this}
 use Rattle.word.specs.Word.{upper}
 use Rattle.decode.specs.Code.{HALT, IN, OUT, RETI}
 use Rattle.decode.specs.Decode.{first_in, first_of, rd_bad, rd_field, shape_of}
-use Rattle.decode.specs.Instructions.{Row, row, rows}
+use Rattle.decode.specs.Instructions.{Row, rows}
 use Rattle.decode.specs.Opcode.{Opcode, in_modes, in_rows, known, mode_bits, opcode_of, unknown}
-use Rattle.decode.specs.declared.First.{First}
-use Rattle.decode.specs.declared.First.TheVariants.{Defined, Undefined}
 use Rattle.decode.specs.declared.Privilege.{Privilege}
 use Rattle.decode.specs.declared.Privilege.TheVariants.{Anyone, Kernel, Ports}
 use Rattle.decode.specs.declared.Shape.{Shape}
@@ -39,9 +37,9 @@ module _ (test : Row → ℕ → Bool) where
     pub has : test row mode ≡ true
     pub is : shape ≡ shape_of row mode w
 
-  abbrev FirstHas : ℕ → First → Type 0
-  FirstHas w Undefined = Unit {0}
-  FirstHas w (Defined shape) = Decoded w shape
+  abbrev FirstHas : ℕ → Option Shape → Type 0
+  FirstHas w None = Unit {0}
+  FirstHas w (Some shape) = Decoded w shape
 
   in_modes_lem : (byte : ℕ) (r : Row) (ms : List ℕ) (other : Opcode) → in_each_mode r ms ≡ true → OpcodeHas other → OpcodeHas (in_modes byte r ms other)
   unfolding in_each_mode in_modes
@@ -68,7 +66,7 @@ module _ (test : Row → ℕ → Bool) where
         either (FirstHas w) (rd_bad r.rd (rd_field w)) (λ _. tt)
         (λ _. record { row = r; mode = m; has = h; is = refl })
 
-    pub decoded_has : (w : ℕ) (shape : Shape) → Defined shape ≡ first_of w → Decoded w shape
+    pub decoded_has : (w : ℕ) (shape : Shape) → Some shape ≡ first_of w → Decoded w shape
     unfolding first_of
     decoded_has w shape e = subst (FirstHas w) (sym e) (first_has (opcode_of (upper w)) w (opcode_has (upper w)))
 

@@ -30,6 +30,7 @@ pub enum Operand {
     Indirect(u8),
     // The byte at the address in a register.
     ByteIndirect(u8),
+    // None: in an `Option` each match would be one within another.
     Nothing,
 }
 
@@ -95,7 +96,8 @@ pub struct Instruction {
 }
 
 // What the first word of a defined instruction says: its number, its mode (8 where it has no operand), its two fields, whether a second word
-// follows, its states, its privilege, its data access and how it goes on.
+// follows, its states, its privilege, its data access and how it goes on. The mode is the number that the first byte has:
+// an enum of it would be `Operand` without what each case holds.
 #[derive(Clone, Copy)]
 pub struct Shape {
     pub code: u8,
@@ -107,10 +109,4 @@ pub struct Shape {
     pub privilege: Privilege,
     pub access: DataAccess,
     pub flow: Flow,
-}
-
-#[derive(Clone, Copy)]
-pub enum First {
-    Undefined,
-    Defined(Shape),
 }

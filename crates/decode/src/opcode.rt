@@ -1,29 +1,26 @@
 // The first word of an instruction, by its entry in the decoding table.
 ghost use Rattle.std.specs.Prelude.{◌≡◌};
 ghost use Rattle.decode.specs.Decode as def;
-ghost use Rattle.decode.specs.Entry.{table_of};
 
+use crate::Shape;
 use crate::properties::{access_of, flow_of, privilege_of, undefined_rd};
-use crate::table::{Table, UNKNOWN};
-use crate::{First, Shape};
+use crate::table::{UNKNOWN, entries};
 
-// The first word of an instruction.
-pub fn first_word(table: &Table, word: u16) -> First
-    requires { table.now ≡ table_of }
+// What the first word of an instruction says, if it is defined.
+pub fn first_word(word: u16) -> Option<Shape>
     ensures { result ≡ def.first_of word }
 {
-    let byte = (word / 256) as usize;
-    let entry = table[byte];
+    let entry = entries()[(word / 256) as usize];
     if entry == UNKNOWN {
-        return First::Undefined;
+        return None;
     }
     let code = (entry % 32) as u8;
     let mode = entry / 0x20 % 16;
     let rd = word / 16 % 16;
     if undefined_rd(code, rd) {
-        return First::Undefined;
+        return None;
     }
-    First::Defined(Shape {
+    Some(Shape {
         code,
         mode: mode as u8,
         rd: rd as u8,

@@ -8,6 +8,7 @@ ghost use Rattle.word.specs.Signed.{signed4};
 use crate::{Instruction, Operand, Shape};
 
 // Twice D4.
+#[tactic(auto, using(word::specs::Laws::signed4_mag))]
 pub fn frame_offset(field: u16) -> i16
     ensures { result ≡ signed4 field *ℤ pos 2 }
 {
@@ -15,6 +16,7 @@ pub fn frame_offset(field: u16) -> i16
 }
 
 // The operand in a mode, from the last field and the second word.
+#[tactic(auto, unfolding(crate::specs::Decode::operand_of))]
 pub fn operand_from(mode: u8, rx: u8, second: u16) -> Operand
     ensures operand { result ≡ def.operand_of mode rx second }
     ensures number { mode_number result ≡ min mode no_operand }
@@ -32,18 +34,16 @@ pub fn operand_from(mode: u8, rx: u8, second: u16) -> Operand
     }
 }
 
-// The instruction of a first word and a second one, which is 0 where there is none.
+// The instruction of a first word and a second one, which is 0 where there is none: nothing reads it then.
 pub fn decoded(shape: Shape, second: u16) -> Instruction
     ensures { result ≡ def.instruction_of shape second }
 {
-    let access = shape.access;
-    let flow = shape.flow;
     Instruction {
         code: shape.code,
         rd: shape.rd,
         operand: operand_from(shape.mode, shape.rx, second),
         cost: shape.cost,
-        access,
-        flow,
+        access: shape.access,
+        flow: shape.flow,
     }
 }

@@ -1,4 +1,6 @@
 // What the number of an instruction tells, whatever its mode.
+#![tactic(auto, using(jump::specs::Laws::undefined_thirteen), unfolding(crate::specs::Instructions::row, crate::specs::Instructions::rows, crate::specs::Properties::no_row, crate::specs::Properties::row_of, crate::specs::Properties::with_code))]
+
 ghost use Rattle.std.specs.Prelude.{◌≡◌, ◌<◌};
 ghost use Rattle.decode.specs.Decode.{rd_bad};
 ghost use Rattle.decode.specs.Properties.{row_of};
@@ -17,13 +19,8 @@ pub fn undefined_rd(code: u8, rd: u16) -> bool
     ensures { result ≡ rd_bad (row_of code).rd rd }
 {
     match code {
-        code::NO => false,
         code::JUMP => rd == NO_CONDITION,
-        code::CALL => false,
-        code::RET => false,
-        code::RETI => false,
-        code::SVC => false,
-        code::HALT => false,
+        code::NO | code::CALL | code::RET | code::RETI | code::SVC | code::HALT => false,
         _ => rd == PC,
     }
 }
@@ -33,10 +30,8 @@ pub fn privilege_of(code: u8) -> Privilege
     ensures { result ≡ (row_of code).privilege }
 {
     match code {
-        code::IN => Privilege::Ports,
-        code::OUT => Privilege::Ports,
-        code::RETI => Privilege::Kernel,
-        code::HALT => Privilege::Kernel,
+        code::IN | code::OUT => Privilege::Ports,
+        code::RETI | code::HALT => Privilege::Kernel,
         _ => Privilege::Anyone,
     }
 }
@@ -46,15 +41,11 @@ pub fn access_of(code: u8) -> DataAccess
     ensures { result ≡ (row_of code).access }
 {
     match code {
-        code::LD => DataAccess::Source,
+        code::LD | code::ADD..=code::MOD | code::SHLA..=code::SHRL => DataAccess::Source,
         code::ST => DataAccess::Destination,
-        code::ADD..=code::MOD => DataAccess::Source,
         code::LDFLAG => DataAccess::Flag,
-        code::SHLA..=code::SHRL => DataAccess::Source,
-        code::CALL => DataAccess::Push,
-        code::PUSH => DataAccess::Push,
-        code::POP => DataAccess::Pop,
-        code::RET => DataAccess::Pop,
+        code::CALL | code::PUSH => DataAccess::Push,
+        code::POP | code::RET => DataAccess::Pop,
         code::RETI => DataAccess::PopTwo,
         _ => DataAccess::None,
     }
@@ -65,8 +56,7 @@ pub fn flow_of(code: u8) -> Flow
     ensures { result ≡ (row_of code).flow }
 {
     match code {
-        code::DIV => Flow::Divide,
-        code::MOD => Flow::Divide,
+        code::DIV | code::MOD => Flow::Divide,
         code::SHLA..=code::SHRL => Flow::Shift,
         code::JUMP => Flow::Jump,
         code::CALL => Flow::Call,

@@ -5,12 +5,11 @@ ghost use Rattle.decode.specs.Entry.{table_of};
 // An entry for each first byte.
 pub type Table = [u16; 256];
 
-// The entry of a byte that is no instruction: mode 15, which is none. A run of zeros in a constant costs more to build on the stack than other
-// words.
+// The entry of a byte that is no instruction: mode 15, which is none. An entry has 16 bits, and no place for an `Option`.
 pub const UNKNOWN: u16 = 0x01e0;
 
 // From the lowest bit of an entry up: the instruction's number (5 bits), the mode (4), the states (7).
-const TABLE: Table = [
+static TABLE: Table = [
     0x0700, UNKNOWN, UNKNOWN, UNKNOWN, UNKNOWN, UNKNOWN, UNKNOWN, UNKNOWN, 0x0e01, 0x0e21, 0x0a41,
     0x0e61, 0x0881, 0x08a1, 0x0cc1, 0x0ce1, 0x0c02, 0x0c22, UNKNOWN, 0x0c62, 0x090f, UNKNOWN,
     0x0ac2, 0x0ae2, 0x0e03, 0x0e23, 0x0a43, 0x0e63, 0x0a83, 0x08a3, 0x0cc3, 0x0ce3, 0x0e04, 0x0e24,
@@ -37,8 +36,9 @@ const TABLE: Table = [
     UNKNOWN, UNKNOWN, UNKNOWN, 0x0b1f,
 ];
 
-pub fn entries() -> Table
-    ensures { result ≡ table_of }
+// The table.
+pub fn entries() -> &'static Table
+    ensures { result.now ≡ table_of }
 {
-    TABLE
+    &TABLE
 }

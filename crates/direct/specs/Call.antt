@@ -1,9 +1,8 @@
 -- What a run answers and leaves in the lent buffers.
 -- Assumes nothing.
-use Rattle.std.specs.Prelude.{List, ◌++◌, ℕ, drop, length}
+use Rattle.std.specs.Prelude.{List, ◌++◌, ℕ, drop, length, Ok}
 use Rattle.call.specs.Call.{Call, buffers, called, unless_refused}
 use Rattle.call.specs.Valid.{run_valid}
-use Rattle.call.specs.declared.Answer.TheVariants.{Done}
 use Rattle.image.specs.Decode.{state_from}
 use Rattle.image.specs.Image.{image_of}
 use Rattle.machine.specs.Run.{Ran, run_of}
@@ -12,7 +11,7 @@ use Rattle.report.specs.Report.{report_of_ran}
 
 -- memory and image after the run, and its report in front of what the report held; given is the number of report bytes filled
 abbrev pub ran_call : Ran → List ℕ → Call
-ran_call r rep = called (Done report_size) (buffers r.memory (image_of r.state) (report_of_ran r ++ drop report_size rep))
+ran_call r rep = called (Ok report_size) (buffers r.memory (image_of r.state) (report_of_ran r ++ drop report_size rep))
 
 -- a run
 unfoldable pub run_call : List ℕ → List ℕ → ℕ → List ℕ → Call

@@ -1,8 +1,9 @@
 -- Laws of elements read from bytes one behind the other, and of elements stored so: those that a loop uses.
 -- Assumes nothing.
 use Rattle.std.specs.Prelude.{[], List, ◌++◌, ◌∷◌, refl, ◌≡◌, suc, zero, ℕ, ◌%◌, ◌*◌, ◌+◌, ◌/◌, ◌<◌, ◌≤◌, get_or, length, set, take}
-use Rattle.std.proofs.Common.{append_assoc, append-nil, ap, sym, ◌∙◌, add-zero, add-one, arith, drop_of_length-le, length-append, length-set, length-take-le, take_all, take-suc, take-suc-set}
+use Rattle.std.proofs.Common.{append_assoc, append-nil, ap, sym, ◌∙◌, add-zero, add-one, arith, drop_of_length-le, length-append, length-set, length-take-le, take_all, take-suc-set}
 use Rattle.std.proofs.Math.Seq.{length-sets}
+use Rattle.std.proofs.lemmas.List.{take_more}
 use Rattle.std.proofs.lemmas.List.Edits.{sets, sets-eq}
 use Rattle.endian.specs.Bytes.{word_bytes, word_from, words_from}
 
@@ -18,17 +19,30 @@ module _ {A : Type 0} (one : ℕ → A) (size : ℕ) (many : ℕ → ℕ → Lis
       ∙ ap (λ (r : List A). one at ∷ r) (ap (many (at + size)) (sym (add-one n)) ∙ one_more (at + size) n)
       ∙ rw (more at n, (let e : at + size + size * n ≡ at + size * suc n = omega arith in e))
 
+-- `many` elements from an offset on, `size` bytes for each: `one` there, then those behind it
+pub record Reads {A : Type 0} (size : ℕ) (one : List ℕ → ℕ → A) (many : List ℕ → ℕ → ℕ → List A) : Type 0 where
+  pub none : (b : List ℕ) (at : ℕ) → many b at zero ≡ []
+  pub more : (b : List ℕ) (at n : ℕ) → many b at (suc n) ≡ one b at ∷ many b (at + size) n
+
+pub reads_more :
+    {A : Type 0} {size : ℕ} {one : List ℕ → ℕ → A} {many : List ℕ → ℕ → ℕ → List A} → Reads size one many → (b : List ℕ) (at n : ℕ)
+    → many b at (n + 1) ≡ many b at n ++ (one b (at + size * n) ∷ [])
+reads_more {A} {size} {one} {many} r b = one_more (one b) size (many b) (r.none b) (r.more b)
+
+pub words_read : Reads 2 word_from words_from
+words_read = record { none = λ b at. refl; more = λ b at n. refl }
+
 pub words_more : (b : List ℕ) (at n : ℕ) → words_from b at (n + 1) ≡ words_from b at n ++ (word_from b (at + 2 * n) ∷ [])
-words_more b = one_more (word_from b) 2 (words_from b) (λ at. refl) (λ at n. refl)
+words_more = reads_more words_read
 
 -- `k` of `n` elements have been read
-pub record Filled (read : ℕ → List ℕ) (n : ℕ) (xs : List ℕ) (k : ℕ) : Type 0 where
+pub record Filled {A : Type 0} (read : ℕ → List A) (n : ℕ) (xs : List A) (k : ℕ) : Type 0 where
   pub within : k ≤ n
   pub long : length xs ≡ n
   pub front : take k xs ≡ read k
 
-module _ {read : ℕ → List ℕ} {n : ℕ} {xs : List ℕ} {k : ℕ} (f : Filled read n xs k) where
-  pub filled_more : (v : ℕ) → k < n → read (k + 1) ≡ read k ++ (v ∷ []) → Filled read n (set xs k v) (k + 1)
+module _ {A : Type 0} {read : ℕ → List A} {n : ℕ} {xs : List A} {k : ℕ} (f : Filled read n xs k) where
+  pub filled_more : (v : A) → k < n → read (k + 1) ≡ read k ++ (v ∷ []) → Filled read n (set xs k v) (k + 1)
   filled_more v h e =
       record {
         within = omega arith;
@@ -36,7 +50,7 @@ module _ {read : ℕ → List ℕ} {n : ℕ} {xs : List ℕ} {k : ℕ} (f : Fill
         front =
             ap (λ (j : ℕ). take j (set xs k v)) (add-one k)
             ∙ take-suc-set xs k v (omega arith)
-            ∙ ap (λ (r : List ℕ). r ++ (v ∷ [])) f.front
+            ∙ ap (λ (r : List A). r ++ (v ∷ [])) f.front
             ∙ sym e;
       }
 
@@ -69,22 +83,19 @@ sets_all xs old e =
     ∙ append-nil xs
 
 -- bytes of elements: `size` for each, one behind the other
-pub record Laid (size : ℕ) (bytes : List ℕ → List ℕ) : Type 0 where
-  pub one : ℕ → List ℕ
+pub record Laid {A : Type 0} (size : ℕ) (bytes : List A → List ℕ) : Type 0 where
+  pub one : A → List ℕ
   pub none : bytes [] ≡ []
-  pub more : (x : ℕ) (xs : List ℕ) → bytes (x ∷ xs) ≡ one x ++ bytes xs
-  pub long : (x : ℕ) → length (one x) ≡ size
+  pub more : (x : A) (xs : List A) → bytes (x ∷ xs) ≡ one x ++ bytes xs
+  pub long : (x : A) → length (one x) ≡ size
 
 pub words_laid : Laid 2 word_bytes
 unfolding word_bytes
 words_laid =
     record { one = λ x. (x / 256 % 256) ∷ (x % 256) ∷ []; none = refl; more = λ x xs. refl; long = λ x. refl }
 
-pub bytes_laid : Laid 1 (λ (xs : List ℕ). xs)
-bytes_laid = record { one = λ x. x ∷ []; none = refl; more = λ x xs. refl; long = λ x. refl }
-
-module _ {size : ℕ} {bytes : List ℕ → List ℕ} (laid : Laid size bytes) where
-  pub laid_append : (xs ys : List ℕ) → bytes (xs ++ ys) ≡ bytes xs ++ bytes ys
+module _ {A : Type 0} {size : ℕ} {bytes : List A → List ℕ} (laid : Laid size bytes) where
+  pub laid_append : (xs ys : List A) → bytes (xs ++ ys) ≡ bytes xs ++ bytes ys
   laid_append [] ys = ap (λ (r : List ℕ). r ++ bytes ys) (sym laid.none)
   laid_append (x ∷ xs) ys =
       laid.more x (xs ++ ys)
@@ -92,7 +103,7 @@ module _ {size : ℕ} {bytes : List ℕ → List ℕ} (laid : Laid size bytes) w
       ∙ sym (append_assoc (laid.one x) (bytes xs) (bytes ys))
       ∙ ap (λ (r : List ℕ). r ++ bytes ys) (sym (laid.more x xs))
 
-  pub laid_long : (xs : List ℕ) → length (bytes xs) ≡ size * length xs
+  pub laid_long : (xs : List A) → length (bytes xs) ≡ size * length xs
   laid_long [] = ap length laid.none ∙ omega arith
   laid_long (x ∷ xs) =
       ap length (laid.more x xs) ∙ length-append (laid.one x) (bytes xs) ∙ omega (arith, laid.long x, laid_long xs)
@@ -117,28 +128,27 @@ words_behind old xs ys at =
     ∙ ap (sets old at) (sym (laid_append words_laid xs ys))
 
 -- `k` of the elements `xs` have been stored from `at` on
-pub record Stored (bytes : List ℕ → List ℕ) (old : List ℕ) (at : ℕ) (xs new : List ℕ) (k : ℕ) : Type 0 where
+pub record Stored {A : Type 0} (bytes : List A → List ℕ) (old : List ℕ) (at : ℕ) (xs : List A) (new : List ℕ) (k : ℕ) : Type 0 where
   pub within : k ≤ length xs
   pub are : new ≡ sets old at (bytes (take k xs))
   pub long : length new ≡ length old
 
-module _ {size : ℕ} {bytes : List ℕ → List ℕ} (laid : Laid size bytes) {old : List ℕ} {at : ℕ} {xs : List ℕ} where
+module _ {A : Type 0} {size : ℕ} {bytes : List A → List ℕ} (laid : Laid size bytes) {old : List ℕ} {at : ℕ} {xs : List A} where
   pub stored_none : Stored bytes old at xs old 0
   stored_none = record { within = omega arith; are = ap (sets old at) (sym laid.none); long = refl }
 
   module _ {new : List ℕ} {k : ℕ} (s : Stored bytes old at xs new k) where
     pub stored_more :
-        {next : List ℕ} {p : ℕ} → k < length xs → next ≡ sets new p (bytes (get_or xs k 0 ∷ [])) → p ≡ at + size * k
+        {next : List ℕ} {p : ℕ} (d : A) → k < length xs → next ≡ sets new p (bytes (get_or xs k d ∷ [])) → p ≡ at + size * k
         → Stored bytes old at xs next (k + 1)
-    stored_more {next} {p} h e place =
-        let x : List ℕ = get_or xs k 0 ∷ [] in
+    stored_more {next} {p} d h e place =
+        let x : List A = get_or xs k d ∷ [] in
         let front : List ℕ = bytes (take k xs) in
         let here : p ≡ at + length front =
         place
         ∙ ap (λ (n : ℕ). at + size * n) (sym (length-take-le k xs s.within))
         ∙ ap (λ (n : ℕ). at + n) (sym (laid_long laid (take k xs))) in
-        let more : bytes (take (k + 1) xs) ≡ front ++ bytes x =
-        ap (λ (j : ℕ). bytes (take j xs)) (add-one k) ∙ ap bytes (take-suc xs k 0 h) ∙ laid_append laid (take k xs) x in
+        let more : bytes (take (k + 1) xs) ≡ front ++ bytes x = ap bytes (take_more xs k d h) ∙ laid_append laid (take k xs) x in
         let are : next ≡ sets old at (bytes (take (k + 1) xs)) =
         e
         ∙ ap (λ (j : ℕ). sets new j (bytes x)) here
@@ -148,4 +158,4 @@ module _ {size : ℕ} {bytes : List ℕ → List ℕ} (laid : Laid size bytes) {
         record { within = omega arith; are = are; long = ap length are ∙ length-sets old at (bytes (take (k + 1) xs)) }
 
     pub stored_all : length xs ≤ k → new ≡ sets old at (bytes xs)
-    stored_all h = s.are ∙ ap (λ (r : List ℕ). sets old at (bytes r)) (take_all k xs h)
+    stored_all h = s.are ∙ ap (λ (r : List A). sets old at (bytes r)) (take_all k xs h)

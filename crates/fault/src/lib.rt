@@ -2,15 +2,10 @@
 #![tactic(auto)]
 
 ghost use Rattle.std.specs.Prelude.{◌≡◌};
-ghost use Rattle.mmu.specs.Answers.{fault_number};
+ghost use Rattle.mmu.specs.Answers.{cause_bit};
 ghost use Rattle.fault.specs.Fault as def;
 
-use mmu::Fault;
-
-// The numbers of the faults of an access.
-const MISSING_PAGE: u8 = 10;
-
-const VIOLATION: u8 = 11;
+use mmu::{Fault, Violation};
 
 // The bits of a cause.
 const NO_RIGHT: u8 = 1;
@@ -32,37 +27,31 @@ pub struct Readout {
     pub left: FaultRecord,
 }
 
-// The number that an access enters with that is not granted.
-pub fn fault_number(fault: Fault) -> u8
-    ensures { result ≡ fault_number fault }
+// What a fault adds to the cause.
+fn cause_bit(fault: Fault) -> u8
+    ensures { result ≡ cause_bit fault }
 {
     match fault {
-        Fault::Odd => VIOLATION,
-        Fault::Missing => MISSING_PAGE,
-        Fault::Refused => VIOLATION,
+        Fault::Odd => ODD_ADDRESS,
+        Fault::Missing => 0,
+        Fault::Refused => NO_RIGHT,
     }
 }
 
 impl FaultRecord {
-    // The record after an access to `a` that was not granted.
-    pub fn noted(self, fault: Fault, a: u16) -> FaultRecord
-        ensures { result ≡ def.record_after fault a self }
+    // The record after an access that was not granted.
+    pub fn noted(self, violation: Violation) -> FaultRecord
+        ensures { result ≡ def.record_after violation.fault violation.address self }
     {
-        match fault {
-            Fault::Odd => FaultRecord {
-                violation: a,
-                cause: self.cause | ODD_ADDRESS,
-                missed: self.missed,
-            },
+        match violation.fault {
             Fault::Missing => FaultRecord {
-                violation: self.violation,
-                cause: self.cause,
-                missed: (a / 256) as u8,
+                missed: (violation.address / 256) as u8,
+                ..self
             },
-            Fault::Refused => FaultRecord {
-                violation: a,
-                cause: self.cause | NO_RIGHT,
-                missed: self.missed,
+            Fault::Odd | Fault::Refused => FaultRecord {
+                violation: violation.address,
+                cause: self.cause | cause_bit(violation.fault),
+                ..self
             },
         }
     }
@@ -71,12 +60,10 @@ impl FaultRecord {
     fn leaving(self, cause: u8) -> Readout
         ensures { result ≡ def.leaving cause self }
     {
-        let left = FaultRecord {
-            violation: self.violation,
-            cause,
-            missed: self.missed,
-        };
-        Readout { given: self, left }
+        Readout {
+            given: self,
+            left: FaultRecord { cause, ..self },
+        }
     }
 
     // The reader that does not consume: a look.

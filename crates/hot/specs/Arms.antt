@@ -1,17 +1,18 @@
 -- The arms, each by its law.
 -- Assumes nothing.
-use Rattle.std.specs.Prelude.{List, refl, ◌≡◌, ℕ, ◌+◌, ◌/◌, ◌<◌, get_or, length, set}
+use Rattle.std.specs.Prelude.{Bool, false, true, List, refl, ◌≡◌, ℕ, ◌+◌, ◌/◌, ◌<◌, ◌≤◌, eqb, get_or, length, set}
 use Rattle.std.proofs.Common.{ap, ◌∙◌, arith, length-set}
-use Rattle.decode.specs.Code.{CMP, LD}
+use Rattle.std.proofs.lemmas.Bool.{eqb-false, eqb-true}
+use Rattle.decode.specs.Code.{CMP, LD, SHLA, SHLL}
 use Rattle.decode.specs.Decode.{rd_field}
 use Rattle.decode.specs.Instructions.{add_states, eight}
 use Rattle.decode.specs.Opcode.{states_at}
 use Rattle.decode.specs.declared.Flow.TheVariants as flow
 use Rattle.plan.specs.Result.{alu_of}
-use Rattle.alu.specs.Alu.{places, sub_of}
+use Rattle.alu.specs.Alu.{places, shl_of, sub_of}
 use Rattle.alu.specs.declared.Alu.{Alu}
 use Rattle.source.specs.Fields.{mode_of}
-use Rattle.source.specs.Rows.{Computes, add_cost, below_eight, load_cost}
+use Rattle.source.specs.Rows.{Computes, add_cost, below_eight, load_cost, shla, shll}
 use Rattle.hot.specs.Tells.{Divided, Operates, act, by_zero, compare, compute, divide, flagged, load, quotient, shift, stay, to}
 use Rattle.hot.specs.declared.Hot.{Hot}
 use Rattle.source.specs.declared.operand.Source.{Source}
@@ -36,6 +37,15 @@ pub load_below : (mode : ℕ) → mode < 8 → load_cost mode < 8
 unfolding add_cost load_cost states_at eight add_states
 load_below =
     below_eight (λ m. load_cost m < 8) (omega arith) (omega arith) (omega arith) (omega arith) (omega arith) (omega arith) (omega arith) (omega arith)
+
+-- the two shifts to the left
+pub shl_computes : (code : ℕ) → SHLA ≤ code → code < SHLL + 1 → Computes code flow.Shift 1 × ((a b : ℕ) → alu_of code a b ≡ shl_of a b)
+unfolding alu_of
+shl_computes code l k = by (eqb code SHLA) refl
+  where
+    by : (t : Bool) → eqb code SHLA ≡ t → Computes code flow.Shift 1 × ((a b : ℕ) → alu_of code a b ≡ shl_of a b)
+    by true e = rw (eqb-true code SHLA e) (shla, λ a b. refl)
+    by false e = let q : code ≡ SHLL = omega (arith, eqb-false code SHLA e) in rw q (shll, λ a b. refl)
 
 module _ (rs : List ℕ) (size : length rs ≡ 16) (h : Hot) (w : ℕ) (x : Source) (cost : x.cost ≡ add_cost (mode_of w)) (low : rd_field w < 14) (v : x.value < 65536) where
   sized : (n : ℕ) → length (set rs (rd_field w) n) ≡ 16

@@ -1,5 +1,5 @@
 // The instructions: PC, the arithmetic flags, the registers and memory after one, or nothing changed where it is not carried out here.
-ghost use Rattle.std.specs.Prelude.{◌≡◌, ◌%◌, ◌*◌, ◌+◌, ◌/◌, ◌<◌, length, set};
+ghost use Rattle.std.specs.Prelude.{◌≡◌, ◌%◌, ◌*◌, ◌+◌, ◌/◌, ◌<◌, set};
 ghost use Rattle.source.specs.Rows.{add_cost, load_cost};
 ghost use Rattle.source.specs.Fields.{mode_of};
 ghost use Rattle.word.specs.Word.{upper};
@@ -8,6 +8,7 @@ ghost use Rattle.hot.specs.Tells as def;
 use crate::Hot;
 use alu::Alu;
 use decode::code;
+use memory::Memory;
 use pages::NONE;
 use source::{Source, USP, source_of};
 
@@ -33,12 +34,12 @@ impl Hot {
         self,
         regs: &mut [u16; 16],
         map: &[u16; 256],
-        mem: &[u8],
+        mem: &Memory,
         w: u32,
         code: u8,
         mode: u32,
     ) -> Hot
-        requires { (length regs.old ≡ 16) × (length mem.now ≡ 65536) × (self.pc % 2 ≡ 0) × (upper w ≡ code * 8 + mode) × (mode < 8) }
+        requires { (self.pc % 2 ≡ 0) × (upper w ≡ code * 8 + mode) × (mode < 8) }
         ensures { def.Tells map.now regs.old mem.now self w regs.new mem.now result }
     {
         let x = source_of(regs, map, mem, self.pc, w, mode);
@@ -47,7 +48,7 @@ impl Hot {
 
     // LD and ADD to SHRL, by code and mode, with their operand.
     pub(crate) fn operate(self, regs: &mut [u16; 16], w: u32, code: u8, mode: u32, x: Source) -> Hot
-        requires { (length regs.old ≡ 16) × (x.cost ≡ add_cost (mode_of w)) × (w / 2048 ≡ code) × (mode_of w ≡ mode) }
+        requires { (x.cost ≡ add_cost (mode_of w)) × (w / 2048 ≡ code) × (mode_of w ≡ mode) }
         ensures { def.Operates regs.old self w x regs.new result }
     {
         // The operand before Rd: the compiled loop is faster so.
@@ -72,8 +73,13 @@ impl Hot {
             code::MUL => with(regs, d, alu::mul(a, b), x.next, x.cost + 50),
             code::DIV => self.divide(regs, d, b, alu::div(a, b), x.next, x.cost + 66),
             code::MOD => self.divide(regs, d, b, alu::modulo(a, b), x.next, x.cost + 66),
-            code::SHLA => with(regs, d, alu::shl(a, b), x.next, x.cost + 1 + x.value % 16),
-            code::SHLL => with(regs, d, alu::shl(a, b), x.next, x.cost + 1 + x.value % 16),
+            code::SHLA | code::SHLL => with(
+                regs,
+                d,
+                alu::shl(a, b),
+                x.next,
+                x.cost + 1 + x.value % 16,
+            ),
             code::SHRA => with(regs, d, alu::shra(a, b), x.next, x.cost + 1 + x.value % 16),
             code::SHRL => with(regs, d, alu::shrl(a, b), x.next, x.cost + 1 + x.value % 16),
             _ => self.stop(),
@@ -81,7 +87,7 @@ impl Hot {
     }
 
     fn load(self, regs: &mut [u16; 16], d: usize, v: u16, pc: u16, cost: u32) -> Hot
-        requires { (length regs.old ≡ 16) × (d < 16) }
+        requires { d < 16 }
         ensures value { result ≡ def.to self pc cost }
         ensures written { regs.new ≡ set regs.old d v }
     {
@@ -91,7 +97,7 @@ impl Hot {
 
     // A quotient or a remainder, where the divisor is not 0.
     fn divide(self, regs: &mut [u16; 16], d: usize, b: u16, r: Alu, pc: u16, cost: u32) -> Hot
-        requires { (length regs.old ≡ 16) × (d < 16) }
+        requires { d < 16 }
         ensures { def.Divided regs.old self d b r pc cost regs.new result }
     {
         if b == 0 {
@@ -123,7 +129,7 @@ fn flagged(r: Alu, pc: u16, cost: u32) -> Hot
 
 // A result to a register.
 fn with(regs: &mut [u16; 16], d: usize, r: Alu, pc: u16, cost: u32) -> Hot
-    requires { (length regs.old ≡ 16) × (d < 16) }
+    requires { d < 16 }
     ensures value { result ≡ def.flagged r pc cost }
     ensures written { regs.new ≡ set regs.old d r.value }
 {

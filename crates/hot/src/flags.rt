@@ -24,7 +24,7 @@ impl Hot {
     }
 
     // V, C, S and Z in the places of FLAG.
-    pub(crate) fn flags(self) -> u16
+    pub(crate) fn flags(self) -> u8
         ensures { (result ≡ flag_bits self.v self.c (def.s_of self) (def.z_of self)) × (result < 16) }
     {
         8 * digit(self.v) + 4 * digit(self.c) + 2 * digit(self.s()) + digit(self.z())
@@ -39,10 +39,10 @@ impl Hot {
     }
 }
 
-fn digit(x: bool) -> u16
+fn digit(x: bool) -> u8
     ensures { (result ≡ bool_byte x) × (result < 2) }
 {
-    x as u16
+    u8::from(x)
 }
 
 // The condition of each number as a word, Dh being none: bit 8V + 4C + 2S + Z tells whether it holds with these flags.
@@ -71,8 +71,8 @@ fn holds(n: u32) -> u16
 }
 
 // E, P and I in their places in FLAG.
-pub fn upper_flags(f: Flags) -> u16
-    ensures { (result ≡ top_of f) × (result < 256) }
+pub fn upper_flags(f: Flags) -> u8
+    ensures { result ≡ top_of f }
 {
     128 * digit(f.e) + 64 * digit(f.p) + 32 * digit(f.i)
 }

@@ -1,5 +1,5 @@
 // The instructions that move: stores, jumps, the stack. PC is even before and after each; one that would make it odd is left to the machine.
-ghost use Rattle.std.specs.Prelude.{◌≡◌, ◌%◌, ◌*◌, ◌+◌, ◌/◌, ◌<◌, get_or, length};
+ghost use Rattle.std.specs.Prelude.{◌≡◌, ◌%◌, ◌*◌, ◌+◌, ◌/◌, ◌<◌, get_or};
 ghost use Rattle.decode.specs.Code.{CALL, JUMP, NO, PUSH, RET, ST};
 ghost use Rattle.mmu.specs.declared.Right.TheVariants as right;
 ghost use Rattle.pages.specs.Accesses.{Reads};
@@ -9,6 +9,7 @@ ghost use Rattle.word.specs.declared.Width.TheVariants as width;
 ghost use Rattle.hot.specs.Tells.{Added, Led, Stored, Tells, Told};
 
 use crate::Hot;
+use memory::Memory;
 use mmu::Right;
 use pages::{NONE, NOWHERE, fetch, place, read, word_at, write};
 use source::{SP, USP, frame_place, indexed_place, register, rx, wide};
@@ -28,8 +29,7 @@ fn added(regs: &[u16; 16], mode: u32, pc: u16, w: u32) -> u32
 }
 
 // The word at SP.
-fn top(regs: &[u16; 16], map: &[u16; 256], mem: &[u8]) -> u32
-    requires { length mem.now ≡ 65536 }
+fn top(regs: &[u16; 16], map: &[u16; 256], mem: &Memory) -> u32
     ensures { result < 65536 → Reads map.now mem.now right.Read width.Word (get_or regs.now 13 0) result }
 {
     read(map, mem, Width::Word, wide(regs[SP]))
@@ -47,8 +47,8 @@ impl Hot {
     }
 
     // A jump, PC being even.
-    pub fn jump(self, regs: &[u16; 16], map: &[u16; 256], mem: &[u8], w: u32, mode: u32) -> Hot
-        requires { (length regs.now ≡ 16) × (length mem.now ≡ 65536) × (self.pc % 2 ≡ 0) × (upper w ≡ JUMP * 8 + mode) × (mode < 2) }
+    pub fn jump(self, regs: &[u16; 16], map: &[u16; 256], mem: &Memory, w: u32, mode: u32) -> Hot
+        requires { (self.pc % 2 ≡ 0) × (upper w ≡ JUMP * 8 + mode) × (mode < 2) }
         ensures { Tells map.now regs.now mem.now self w regs.now mem.now result }
     {
         let n = w / 16 % 16;
@@ -64,7 +64,7 @@ impl Hot {
             return self.stop();
         }
         if self.taken(n) {
-            return self.to_even(plus(word_at(mem, i) as u16, add as u16), 5);
+            return self.to_even(plus(word_at(mem, i), add as u16), 5);
         }
         self.to(plus(self.pc, 4), 4)
     }
@@ -74,11 +74,11 @@ impl Hot {
         self,
         regs: &mut [u16; 16],
         map: &[u16; 256],
-        mem: &mut [u8],
+        mem: &mut Memory,
         w: u32,
         mode: u32,
     ) -> Hot
-        requires { (length regs.old ≡ 16) × (length mem.old ≡ 65536) × (self.pc % 2 ≡ 0) × (upper w ≡ CALL * 8 + mode) × (mode < 2) }
+        requires { (self.pc % 2 ≡ 0) × (upper w ≡ CALL * 8 + mode) × (mode < 2) }
         ensures { Tells map.now regs.old mem.old self w regs.new mem.new result }
     {
         let add = added(regs, mode, self.pc, w);
@@ -101,8 +101,8 @@ impl Hot {
         self.stop()
     }
 
-    pub fn push(self, regs: &mut [u16; 16], map: &[u16; 256], mem: &mut [u8], w: u32) -> Hot
-        requires { (length regs.old ≡ 16) × (length mem.old ≡ 65536) × (self.pc % 2 ≡ 0) × (upper w ≡ PUSH * 8) }
+    pub fn push(self, regs: &mut [u16; 16], map: &[u16; 256], mem: &mut Memory, w: u32) -> Hot
+        requires { (self.pc % 2 ≡ 0) × (upper w ≡ PUSH * 8) }
         ensures { Tells map.now regs.old mem.old self w regs.new mem.new result }
     {
         let v = register(regs, w / 16);
@@ -117,8 +117,8 @@ impl Hot {
         self.stop()
     }
 
-    pub fn pop(self, regs: &mut [u16; 16], map: &[u16; 256], mem: &[u8], w: u32) -> Hot
-        requires { (length regs.old ≡ 16) × (length mem.now ≡ 65536) × (self.pc % 2 ≡ 0) × (upper w ≡ PUSH * 8 + 4) }
+    pub fn pop(self, regs: &mut [u16; 16], map: &[u16; 256], mem: &Memory, w: u32) -> Hot
+        requires { (self.pc % 2 ≡ 0) × (upper w ≡ PUSH * 8 + 4) }
         ensures { Tells map.now regs.old mem.now self w regs.new mem.now result }
     {
         let d = (w / 16 % 16) as usize;
@@ -134,8 +134,8 @@ impl Hot {
         self.to(plus(self.pc, 2), 6)
     }
 
-    pub fn ret(self, regs: &mut [u16; 16], map: &[u16; 256], mem: &[u8], w: u32) -> Hot
-        requires { (length regs.old ≡ 16) × (length mem.now ≡ 65536) × (self.pc % 2 ≡ 0) × (upper w ≡ RET * 8) }
+    pub fn ret(self, regs: &mut [u16; 16], map: &[u16; 256], mem: &Memory, w: u32) -> Hot
+        requires { (self.pc % 2 ≡ 0) × (upper w ≡ RET * 8) }
         ensures { Tells map.now regs.old mem.now self w regs.new mem.now result }
     {
         let x = top(regs, map, mem);
@@ -154,14 +154,13 @@ impl Hot {
         self,
         regs: &[u16; 16],
         map: &[u16; 256],
-        mem: &mut [u8],
+        mem: &mut Memory,
         w: u32,
         width: Width,
         a: u32,
         next: u16,
         cost: u32,
     ) -> Hot
-        requires { length mem.old ≡ 65536 }
         ensures { Stored map.now regs.now mem.old self w width a next cost mem.new result }
     {
         let v = register(regs, w / 16);
@@ -175,8 +174,15 @@ impl Hot {
     }
 
     // ST, PC being even.
-    pub fn store(self, regs: &[u16; 16], map: &[u16; 256], mem: &mut [u8], w: u32, mode: u32) -> Hot
-        requires { (length regs.now ≡ 16) × (length mem.old ≡ 65536) × (self.pc % 2 ≡ 0) × (w / 2048 ≡ ST) × (mode_of w ≡ mode) }
+    pub fn store(
+        self,
+        regs: &[u16; 16],
+        map: &[u16; 256],
+        mem: &mut Memory,
+        w: u32,
+        mode: u32,
+    ) -> Hot
+        requires { (self.pc % 2 ≡ 0) × (w / 2048 ≡ ST) × (mode_of w ≡ mode) }
         ensures { Tells map.now regs.now mem.old self w regs.now mem.new result }
     {
         let after = plus(self.pc, 2);
@@ -201,8 +207,8 @@ impl Hot {
     }
 
     // NO.
-    pub fn no(self, regs: &[u16; 16], map: &[u16; 256], mem: &[u8], w: u32) -> Hot
-        requires { (length regs.now ≡ 16) × (length mem.now ≡ 65536) × (self.pc % 2 ≡ 0) × (upper w ≡ NO * 8) }
+    pub fn no(self, regs: &[u16; 16], map: &[u16; 256], mem: &Memory, w: u32) -> Hot
+        requires { (self.pc % 2 ≡ 0) × (upper w ≡ NO * 8) }
         ensures { Tells map.now regs.now mem.now self w regs.now mem.now result }
     {
         self.to(plus(self.pc, 2), 3)
@@ -214,17 +220,17 @@ impl Hot {
         regs: &mut [u16; 16],
         map: &[u16; 256],
         mem: &[u8],
-        top: u16,
+        top: u8,
         w: u32,
     ) -> Hot
-        requires { (length regs.old ≡ 16) × (self.pc % 2 ≡ 0) × (upper w ≡ ST * 8 + 4) × (top < 256) }
+        requires { (self.pc % 2 ≡ 0) × (upper w ≡ ST * 8 + 4) }
         ensures { Told top map.now regs.old mem.now self w regs.new mem.now result }
     {
         let d = (w / 16 % 16) as usize;
         if USP <= d {
             return self.stop();
         }
-        regs[d] = top + self.flags();
+        regs[d] = u16::from(top) + u16::from(self.flags());
         self.to(plus(self.pc, 2), 4)
     }
 }

@@ -1,18 +1,16 @@
 -- Confidentiality: on two memories that agree wherever the TLB lets a program see, a step in user mode has one plan, and so one outcome but
 -- for memory and the handler's address.
 -- Assumes nothing.
-use Rattle.std.specs.Prelude.{Bool, ◌||◌, List, ◌≡◌, eqb, get_or, length}
+use Rattle.std.specs.Prelude.{Bool, ◌||◌, List, ◌≡◌, eqb, get_or, length, Result, Ok, Err, Option, None, Some}
 use Rattle.std.proofs.Math.Bool.{cond, false, true, or-true}
 use Rattle.std.proofs.Math.Path.{refl, ap, ap₂}
 use Rattle.std.proofs.Common.{subst, sym, ◌∙◌}
 use Prim.Native.Nat.{ℕ, ◌%◌, ◌<◌}
 use Rattle.decode.specs.Code.{HALT}
 use Rattle.decode.specs.Decode.{first_of, instruction_of}
-use Rattle.decode.specs.declared.First.{First}
-use Rattle.decode.specs.declared.First.TheVariants.{Defined, Undefined}
 use Rattle.decode.specs.declared.Instruction.{Instruction}
 use Rattle.decode.specs.declared.Shape.{Shape}
-use Rattle.plan.specs.End.{not_permitted}
+use Rattle.plan.specs.Trap.{trap_number}
 use Rattle.machine.specs.Enter.{enter_of, entered, lost}
 use Rattle.machine.specs.Execute.{event_of}
 use Rattle.machine.specs.Fault.{noted}
@@ -29,22 +27,20 @@ use Rattle.transfer.specs.declared.Need.TheVariants as need
 use Rattle.plan.specs.declared.Operation.{Operation}
 use Rattle.plan.specs.declared.Plan.{Plan}
 use Rattle.plan.specs.declared.Plan.TheVariants.{Interrupt, Perform, Trap, Violation}
+use Rattle.plan.specs.declared.Trap.TheVariants.{NotPermitted}
 use Rattle.machine.specs.declared.Planned.{Planned}
 use Rattle.machine.specs.declared.State.{State}
-use Rattle.transfer.specs.declared.Transfer.{Transfer}
-use Rattle.transfer.specs.declared.Transfer.TheVariants as transfer
+use Rattle.transfer.specs.declared.Data.{Data}
 use Rattle.transfer.specs.declared.Transferred.{Transferred}
 use Rattle.mmu.specs.Access.{access_of}
 use Rattle.mmu.specs.Answers.{fault_number}
 use Rattle.mmu.specs.Laws.{AccessCases, access_keeps}
 use Rattle.mmu.proofs.Laws.{access_cases}
 use Rattle.memory.specs.Memory.{read_at, word_at}
-use Rattle.mmu.specs.declared.Access.{Access}
-use Rattle.mmu.specs.declared.Access.TheVariants as access
 use Rattle.mmu.specs.declared.Accessed.{Accessed}
+use Rattle.mmu.specs.declared.Fault.{Fault}
 use Rattle.mmu.specs.declared.Right.{Right}
 use Rattle.mmu.specs.declared.Right.TheVariants.{Execute, Read, Write}
-use Rattle.memory.specs.declared.Store.TheVariants as store
 use Rattle.word.specs.Cases.{either}
 use Rattle.word.specs.Word.{halves, plus, upper}
 use Rattle.word.specs.declared.Width.{Width}
@@ -90,29 +86,29 @@ module _ (m m' : List ℕ) where
     covered Word right s p b = ap₂ halves (here right s b.0) (here right s b.1)
 
     read_same :
-        (width : Width) (right : Right) → Sees right → (a p : ℕ) → (access_of width t tlb right a).access ≡ access.At p
+        (width : Width) (right : Right) → Sees right → (a p : ℕ) → (access_of width t tlb right a).access ≡ Ok p
         → read_at width m p ≡ read_at width m' p
     read_same width right s a p q = covered width right s p (access_in t e tlb right a p width q)
 
   -- ---- the data access
 
   at_same :
-      (x : Access) (a : ℕ) (f f' : ℕ → Transfer) → ((p : ℕ) → x ≡ access.At p → f p ≡ f' p) → transfer_at x a f ≡ transfer_at x a f'
-  at_same (access.At p) a f f' h = h p refl
-  at_same (access.Fails why) a f f' h = refl
+      (x : Result ℕ Fault) (a : ℕ) (f f' : ℕ → Data) → ((p : ℕ) → x ≡ Ok p → f p ≡ f' p) → transfer_at x a f ≡ transfer_at x a f'
+  at_same (Ok p) a f f' h = ap Ok (h p refl)
+  at_same (Err why) a f f' h = refl
 
   by_same :
-      (x : Accessed) (a : ℕ) (f f' : ℕ → Transfer) → ((p : ℕ) → x.access ≡ access.At p → f p ≡ f' p) → by_access x a f ≡ by_access x a f'
-  by_same x a f f' h = ap {B = Transferred} (λ (y : Transfer). record { transfer = y; tlb = x.tlb }) (at_same x.access a f f' h)
+      (x : Accessed) (a : ℕ) (f f' : ℕ → Data) → ((p : ℕ) → x.access ≡ Ok p → f p ≡ f' p) → by_access x a f ≡ by_access x a f'
+  by_same x a f f' h = rw (at_same x.access a f f' h)
 
   module _ (t : Bool) (e : t ≡ true) where
     two_same :
-        (x : Access) (tlb : List ℕ) → Agree tlb → (a : ℕ) → ((p : ℕ) → x ≡ access.At p → word_at m p ≡ word_at m' p)
+        (x : Result ℕ Fault) (tlb : List ℕ) → Agree tlb → (a : ℕ) → ((p : ℕ) → x ≡ Ok p → word_at m p ≡ word_at m' p)
         → read_second x t tlb m a ≡ read_second x t tlb m' a
-    two_same (access.At at) tlb agree a first =
+    two_same (Ok at) tlb agree a first =
         by_same (access_of Word t tlb Read (plus a 2)) (plus a 2) _ _
-        (λ p q. ap₂ (λ (v w : ℕ). transfer.Done v w store.Nothing) (first at refl) (read_same t e tlb agree Word Read tt (plus a 2) p q))
-    two_same (access.Fails why) tlb agree a first = refl
+        (λ p q. rw (first at refl, read_same t e tlb agree Word Read tt (plus a 2) p q))
+    two_same (Err why) tlb agree a first = refl
 
     transfer_same : (need : Need) (tlb : List ℕ) → Agree tlb → (value : ℕ) → transfer_of need t tlb m value ≡ transfer_of need t tlb m' value
     unfolding transfer_of
@@ -146,12 +142,12 @@ module _ (m m' : List ℕ) where
   fetch_same st u agree a f f' h = by (fetched st a).access refl
     where
       by :
-          (x : Access) → (fetched st a).access ≡ x
+          (x : Result ℕ Fault) → (fetched st a).access ≡ x
           → through_access x (after st (fetched st a)) a f ≡ through_access x (after st (fetched st a)) a f'
-      by (access.At p) q =
+      by (Ok p) q =
           h (user_after st (fetched st a).tlb u) (agree_after (access_cases Word (translates st) st.tlb Execute a) agree) p
           (read_same (translates st) (on st u) st.tlb agree Word Execute tt a p q)
-      by (access.Fails why) q = refl
+      by (Err why) q = refl
 
   second_same : (st : State) → UserMode st → Agree st.tlb → (shape : Shape) → plan_second st m shape ≡ plan_second st m' shape
   unfolding plan_second
@@ -164,11 +160,11 @@ module _ (m m' : List ℕ) where
       ∙ ap (λ (n : ℕ). plan_operand s m' (instruction_of shape n) (plus st.pc 4)) w))
       (operand_same st u agree (instruction_of shape 0) (plus st.pc 2))
 
-  first_same : (st : State) → UserMode st → Agree st.tlb → (first : First) → plan_first first st m ≡ plan_first first st m'
+  first_same : (st : State) → UserMode st → Agree st.tlb → (first : Option Shape) → plan_first first st m ≡ plan_first first st m'
   unfolding plan_first
-  first_same st u agree Undefined = refl
-  first_same st u agree (Defined shape) =
-      ap (λ (x : Planned). cond (permitted st shape.privilege) x (planned (Trap not_permitted st.pc) st)) (second_same st u agree shape)
+  first_same st u agree None = refl
+  first_same st u agree (Some shape) =
+      ap (λ (x : Planned). cond (permitted st shape.privilege) x (planned (Trap NotPermitted st.pc) st)) (second_same st u agree shape)
 
   pub plan_same : (st : State) → UserMode st → Agree st.tlb → plan_of st m ≡ plan_of st m'
   unfolding plan_of plan_fetch
@@ -207,8 +203,8 @@ module _ (m m' : List ℕ) where
     commit_same : (x : Plan) (s : State) → Indistinct m m' (commit x s m) (commit x s m')
     unfolding commit
     commit_same (Interrupt line) s = enter_same s (without s.pending line) line s.pc
-    commit_same (Violation why a) s = enter_same (noted why a s) s.pending (fault_number why) s.pc
-    commit_same (Trap number saved) s = enter_same s s.pending number saved
+    commit_same (Violation v) s = enter_same (noted v.fault v.address s) s.pending (fault_number v.fault) s.pc
+    commit_same (Trap why saved) s = enter_same s s.pending (trap_number why) saved
     commit_same (Perform op) s =
         record {
           told = refl;

@@ -1,7 +1,7 @@
 -- Integrity: a step in user mode writes only into frames with the write right, but for what a kernel entry pushes, and keeps P, I, the MMU,
 -- SSP, the rights that the TLB gives and the condition, but for what an entry or a loss sets.
 -- Assumes nothing.
-use Rattle.std.specs.Prelude.{Bool, false, true, List, ◌≡◌, eqb, get_or, set}
+use Rattle.std.specs.Prelude.{Bool, false, true, List, ◌≡◌, eqb, get_or, set, Result, Ok, Err, Option, Some}
 use Rattle.std.proofs.Math.Bool.{false≢true}
 use Rattle.std.proofs.Math.Logic.{inl}
 use Rattle.std.proofs.Math.Path.{refl}
@@ -30,25 +30,24 @@ use Rattle.machine.specs.declared.Condition.{Condition}
 use Rattle.machine.specs.declared.Event.TheVariants as event
 use Rattle.transfer.specs.declared.Need.{Need}
 use Rattle.transfer.specs.declared.Need.TheVariants.{Read, ReadTwo, Value, Write}
+use Rattle.plan.specs.Trap.{trap_number}
 use Rattle.plan.specs.declared.Operation.{Operation}
 use Rattle.plan.specs.declared.Plan.{Plan}
 use Rattle.plan.specs.declared.Plan.TheVariants.{Interrupt, Perform, Trap, Violation}
 use Rattle.machine.specs.declared.Planned.{Planned}
 use Rattle.machine.specs.declared.State.{State}
-use Rattle.transfer.specs.declared.Transfer.{Transfer}
-use Rattle.transfer.specs.declared.Transfer.TheVariants as transfer
+use Rattle.transfer.specs.declared.Data.{Data}
+use Rattle.mmu.specs.declared.Violation as mmu
 use Rattle.transfer.specs.declared.Transferred.{Transferred}
 use Rattle.mmu.specs.Access.{access_of}
 use Rattle.mmu.specs.Answers.{fault_number}
 use Rattle.mmu.specs.Entry.{marked}
 use Rattle.mmu.specs.Laws.{access_keeps}
 use Rattle.mmu.proofs.Laws.{access_cases}
-use Rattle.mmu.specs.declared.Access.{Access}
-use Rattle.mmu.specs.declared.Access.TheVariants as access
+use Rattle.mmu.specs.declared.Fault.{Fault}
 use Rattle.mmu.specs.declared.Right.{Right}
 use Rattle.mmu.specs.declared.Right.TheVariants as right
 use Rattle.memory.specs.declared.Store.{Store}
-use Rattle.memory.specs.declared.Store.TheVariants as store
 use Rattle.word.specs.Cases.{either}
 use Rattle.word.specs.Word.{plus}
 use Rattle.word.specs.declared.Width.TheVariants.{Word}
@@ -116,28 +115,28 @@ module _ (st : State) where
 
   abbrev PlanIn : Plan → Type 0
   PlanIn (Interrupt line) = Unit {0}
-  PlanIn (Violation why a) = Unit {0}
-  PlanIn (Trap number saved) = Unit {0}
+  PlanIn (Violation v) = Unit {0}
+  PlanIn (Trap why saved) = Unit {0}
   PlanIn (Perform op) = OperationIn op
 
   record PlannedIn (x : Planned) : Type 0 where
     near : Near x.state
     plan : PlanIn x.plan
 
-  abbrev TransferIn : Transfer → Type 0
-  TransferIn (transfer.Done v second stores) = Spares st.tlb stores
-  TransferIn (transfer.Fails why a) = Unit {0}
+  abbrev TransferIn : Result Data mmu.Violation → Type 0
+  TransferIn (Ok d) = Spares st.tlb d.store
+  TransferIn (Err v) = Unit {0}
 
-  at_in : (x : Access) (a : ℕ) (f : ℕ → Transfer) → ((p : ℕ) → x ≡ access.At p → TransferIn (f p)) → TransferIn (transfer_at x a f)
-  at_in (access.At p) a f h = h p refl
-  at_in (access.Fails why) a f h = tt
+  at_in : (x : Result ℕ Fault) (a : ℕ) (f : ℕ → Data) → ((p : ℕ) → x ≡ Ok p → Spares st.tlb (f p).store) → TransferIn (transfer_at x a f)
+  at_in (Ok p) a f h = h p refl
+  at_in (Err why) a f h = tt
 
-  second_in_lem : (x : Access) (t : Bool) (tlb m : List ℕ) (a : ℕ) → TransferIn (read_second x t tlb m a).transfer
-  second_in_lem (access.At p) t tlb m a = at_in (access_of Word t tlb right.Read (plus a 2)).access (plus a 2) _ (λ _ _. spares_nothing st.tlb)
-  second_in_lem (access.Fails why) t tlb m a = tt
+  second_in_lem : (x : Result ℕ Fault) (t : Bool) (tlb m : List ℕ) (a : ℕ) → TransferIn (read_second x t tlb m a).transfer
+  second_in_lem (Ok p) t tlb m a = at_in (access_of Word t tlb right.Read (plus a 2)).access (plus a 2) _ (λ _ _. spares_nothing st.tlb)
+  second_in_lem (Err why) t tlb m a = tt
 
   module _ (t : Bool) (e : t ≡ true) (tlb m : List ℕ) (same : SameRights st.tlb tlb) (value : ℕ) where
-    back : (s : Store) → Spares tlb s → Spares st.tlb s
+    back : (s : Option Store) → Spares tlb s → Spares st.tlb s
     back s h m a w = h m a (same right.Write _ ∙ w)
 
     transfer_in : (need : Need) → TransferIn (transfer_of need t tlb m value).transfer
@@ -147,14 +146,14 @@ module _ (st : State) where
     transfer_in (ReadTwo a) = second_in_lem (access_of Word t tlb right.Read a).access t (access_of Word t tlb right.Read a).tlb m a
     transfer_in (Write width a) =
         at_in (access_of width t tlb right.Write a).access a _
-        (λ p q. back (store.At width p value) (spares_at tlb width p value (access_in t e tlb right.Write a p width q)))
+        (λ p q. back (Some (record { width = width; address = p; value = value })) (spares_at tlb width p value (access_in t e tlb right.Write a p width q)))
 
   rest_in :
-      (t : Transfer) → TransferIn t → (s : State) (ins : Instruction) → plain ins.code ≡ true → (held address following : ℕ)
+      (t : Result Data mmu.Violation) → TransferIn t → (s : State) (ins : Instruction) → plain ins.code ≡ true → (held address following : ℕ)
       → PlanIn (plan_transfer t s ins held address following)
-  rest_in (transfer.Done source second stores) h s ins c held address following =
+  rest_in (Ok d) h s ins c held address following =
       end_by PlanIn _ (λ pc states. record { plain_code = c; spares = h }) (λ number saved l h. tt) ins.flow s.pc _
-  rest_in (transfer.Fails why a) h s ins c held address following = tt
+  rest_in (Err v) h s ins c held address following = tt
 
   module _ (u : UserMode st) (m : List ℕ) where
     near_user : (s : State) → Near s → UserMode s
@@ -231,8 +230,8 @@ module _ (st : State) where
     commit_confined : (x : Plan) → PlanIn x → (s : State) → Near s → Confined st m (commit x s m)
     unfolding commit
     commit_confined (Interrupt line) h s n = enter_confined s n (without s.pending line) line s.pc
-    commit_confined (Violation why a) h s n = enter_confined (noted why a s) (near_core n refl) s.pending (fault_number why) s.pc
-    commit_confined (Trap number saved) h s n = enter_confined s n s.pending number saved
+    commit_confined (Violation v) h s n = enter_confined (noted v.fault v.address s) (near_core n refl) s.pending (fault_number v.fault) s.pc
+    commit_confined (Trap why saved) h s n = enter_confined s n s.pending (trap_number why) saved
     commit_confined (Perform op) h s n =
         record {
           long = stored_long m op.store;

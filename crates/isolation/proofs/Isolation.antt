@@ -1,6 +1,6 @@
 -- Demand 3: two runs of a user program on memories that differ only in frames that it may neither read nor execute share every answer.
 -- Assumes nothing.
-use Rattle.std.specs.Prelude.{false, List, ◌⊎◌, ◌≡◌, refl, ℕ, suc, zero, ◌+◌, get_or, length}
+use Rattle.std.specs.Prelude.{false, List, ◌≡◌, refl, ℕ, suc, zero, ◌+◌, get_or, length}
 use Rattle.std.proofs.Common.{inl, inr, ⊎_elim, subst, ◌∙◌}
 use Rattle.std.proofs.Math.Path.{ap}
 use Rattle.image.specs.Image.{image_of}

@@ -1,6 +1,6 @@
 -- Marks change no right; and the address that an access is granted in user mode lies in a frame with the right that it asks for.
 -- Assumes nothing.
-use Rattle.std.specs.Prelude.{Bool, true, List, [], ◌∷◌, ◌≡◌, refl, ℕ, suc, zero, ◌+◌, ◌/◌, ◌%◌, ◌<◌, get_or, set}
+use Rattle.std.specs.Prelude.{Bool, true, List, [], ◌∷◌, ◌≡◌, refl, ℕ, suc, zero, ◌+◌, ◌/◌, ◌%◌, ◌<◌, get_or, set, Ok}
 use Rattle.std.proofs.Math.Bool.{or-true}
 use Rattle.std.proofs.Common.{true≢false, sym, ◌∙◌, arith, eq-eqb}
 use Rattle.machine.specs.Plan.{translates}
@@ -12,7 +12,6 @@ use Rattle.mmu.specs.Found.{held_valid}
 use Rattle.mmu.specs.Laws.{AccessCases, direct, fails, granted_lower, served}
 use Rattle.mmu.proofs.Laws.{access_cases, word_even}
 use Rattle.mmu.specs.Marks.{Like, like_frame, like_gives, like_valid, marked_like}
-use Rattle.mmu.specs.declared.Access.TheVariants.{At}
 use Rattle.mmu.specs.declared.Accessed.{Accessed}
 use Rattle.mmu.specs.declared.Right.{Right}
 use Rattle.word.specs.Word.{halves, lower, plus, upper}
@@ -60,7 +59,7 @@ BytesIn Byte tlb right p = ByteIn tlb right p
 BytesIn Word tlb right p = ByteIn tlb right p × ByteIn tlb right (plus p 1)
 
 module _ (on : Bool) (t : on ≡ true) (tlb : List ℕ) (right : Right) (a p : ℕ) where
-  granted_in : {x : Accessed} → AccessCases on tlb right a x → x.access ≡ At p → ByteIn tlb right p
+  granted_in : {x : Accessed} → AccessCases on tlb right a x → x.access ≡ Ok p → ByteIn tlb right p
   granted_in (direct off e) q = absurd (true≢false (sym t ∙ off))
   granted_in (served k o b h g e) q =
       let same : p ≡ halves (frame_in (get_or tlb k 0)) (lower a) = cc in
@@ -68,7 +67,7 @@ module _ (on : Bool) (t : on ≡ true) (tlb : List ℕ) (right : Right) (a p : �
       record { inside = omega arith; allowed = rw frame (shows tlb k right (held_valid (upper a) (get_or tlb k 0) h) g) }
   granted_in (fails why e) q = let z : ◌≡◌ {A = ℕ} 0 1 = cc in absurd (omega arith)
 
-  pub access_in : (width : Width) → (access_of width on tlb right a).access ≡ At p → BytesIn width tlb right p
+  pub access_in : (width : Width) → (access_of width on tlb right a).access ≡ Ok p → BytesIn width tlb right p
   access_in Byte q = granted_in (access_cases Byte on tlb right a) q
   access_in Word q =
       let first : ByteIn tlb right p = granted_in (access_cases Word on tlb right a) q in

@@ -1,6 +1,6 @@
 -- Stores: a store keeps memory's length and all but its own bytes, and two memories agree after it wherever they did before.
 -- Assumes nothing.
-use Rattle.std.specs.Prelude.{Bool, false, true, List, [], ◌∷◌, ◌⊎◌, ◌≡◌, ℕ, suc, zero, eqb, get_or, length, set}
+use Rattle.std.specs.Prelude.{Bool, false, true, List, [], ◌∷◌, ◌⊎◌, ◌≡◌, ℕ, suc, zero, eqb, get_or, length, set, Option, None, Some}
 use Rattle.std.proofs.Common.{true≢false, inl, inr, ap, sym, ◌∙◌, arith, eqb-true, length-set}
 use Rattle.std.proofs.Math.Path.{refl}
 use Rattle.std.proofs.lemmas.Bool.{eqb-false}
@@ -8,10 +8,9 @@ use Rattle.std.proofs.Math.Seq.{get_or-set_other}
 use Rattle.status.specs.Flag.{word_of}
 use Rattle.status.specs.Saved.{pushed}
 use Rattle.status.specs.declared.Flags.{Flags}
-use Rattle.memory.specs.Memory.{store_word, stored}
+use Rattle.memory.specs.Memory.{store_word, stored, write_at}
 use Rattle.mmu.specs.declared.Right.TheVariants.{Write}
 use Rattle.memory.specs.declared.Store.{Store}
-use Rattle.memory.specs.declared.Store.TheVariants.{At, Nothing}
 use Rattle.word.specs.Word.{lower, minus, plus, upper}
 use Rattle.word.specs.declared.Width.{Width}
 use Rattle.word.specs.declared.Width.TheVariants.{Byte, Word}
@@ -46,11 +45,14 @@ word_agree m m' i v a l e =
     set_agree (set m i (upper v)) (set m' i (upper v)) (plus i 1) (lower v) a (length-set m i (upper v) ∙ l ∙ sym (length-set m' i (upper v)))
     (set_agree m m' i (upper v) a l e)
 
-pub stored_agree : (s : Store) (m m' : List ℕ) (a : ℕ) → length m ≡ length m' → Agree a m m' → Agree a (stored s m) (stored s m')
+pub stored_agree : (s : Option Store) (m m' : List ℕ) (a : ℕ) → length m ≡ length m' → Agree a m m' → Agree a (stored s m) (stored s m')
 unfolding stored
-stored_agree Nothing m m' a l e = e
-stored_agree (At Byte i v) m m' a l e = set_agree m m' i (lower v) a l e
-stored_agree (At Word i v) m m' a l e = word_agree m m' i v a l e
+stored_agree None m m' a l e = e
+stored_agree (Some s) m m' a l e = by s.width
+  where
+    by : (width : Width) → Agree a (write_at width m s.address s.value) (write_at width m' s.address s.value)
+    by Byte = set_agree m m' s.address (lower s.value) a l e
+    by Word = word_agree m m' s.address s.value a l e
 
 pub pushed_agree :
     (ssp : ℕ) (flags : Flags) (saved : ℕ) (m m' : List ℕ) (a : ℕ) → length m ≡ length m' → Agree a m m'
@@ -94,7 +96,7 @@ pushed_kept ssp flags saved m a = by (word_kept (store_word m (minus ssp 2) save
     by (inl p) (inr (inr e)) = inr (inr (inr (inr (omega arith))))
 
 -- a store that leaves every frame without the write right as it is
-abbrev pub Spares : List ℕ → Store → Type 0
+abbrev pub Spares : List ℕ → Option Store → Type 0
 Spares tlb s = (m : List ℕ) (a : ℕ) → has_right tlb Write (upper a) ≡ false → get_or (stored s m) a 0 ≡ get_or m a 0
 
 module _ (tlb : List ℕ) where
@@ -102,11 +104,11 @@ module _ (tlb : List ℕ) where
   apart : {a p : ℕ} → has_right tlb Write (upper a) ≡ false → ByteIn tlb Write p → a ≡ p → ⊥
   apart h b e = true≢false (sym b.allowed ∙ ap (λ (n : ℕ). has_right tlb Write (upper n)) (sym e) ∙ h)
 
-  pub spares_nothing : Spares tlb Nothing
+  pub spares_nothing : Spares tlb None
   unfolding stored
   spares_nothing m a h = refl
 
-  pub spares_at : (width : Width) (p v : ℕ) → BytesIn width tlb Write p → Spares tlb (At width p v)
+  pub spares_at : (width : Width) (p v : ℕ) → BytesIn width tlb Write p → Spares tlb (Some (record { width = width; address = p; value = v }))
   unfolding stored
   spares_at Byte p v b m a h = get_or-set_other m p a (lower v) 0 (apart h b)
   spares_at Word p v b m a h = by (word_kept m p v a)

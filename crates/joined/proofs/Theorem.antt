@@ -1,6 +1,6 @@
 -- Two cards handed in one after the other do what they do as one card.
 -- Assumes nothing.
-use Rattle.std.specs.Prelude.{List, ◌++◌, ◌≡◌, ℕ, ◌*◌, ◌+◌, ◌≤◌, drop, length}
+use Rattle.std.specs.Prelude.{List, ◌++◌, ◌≡◌, ℕ, ◌*◌, ◌+◌, ◌≤◌, drop, length, Ok}
 use Rattle.std.proofs.Common.{append_assoc, ap, ◌∙◌, arith, length-drop, drop_at, drop-drop, take_at}
 use Rattle.card.specs.Call.{executed_call, card_valid}
 use Rattle.command.specs.Card.{reading_of, runs_in}
@@ -10,7 +10,6 @@ use Rattle.card.specs.Passed.{Passed, passed, passes}
 use Rattle.command.specs.declared.Command.{Command}
 use Rattle.call.specs.Call.{Call, given_by}
 use Rattle.image.specs.Decode.{state_from}
-use Rattle.refusal.specs.declared.Validity.TheVariants.{Good}
 use Rattle.report.specs.Layout.{report_size}
 use Rattle.roundtrip.proofs.Ranged.{decoded}
 use Rattle.roundtrip.specs.Statement.{SoundMachine}
@@ -25,7 +24,7 @@ abbrev commands : List ℕ → List Command
 commands card = (reading_of card).commands
 
 all_runs :
-    (a c : List ℕ) → (reading_of a).validity ≡ Good → (reading_of (a ++ c)).validity ≡ Good
+    (a c : List ℕ) → (reading_of a).validity ≡ Ok tt → (reading_of (a ++ c)).validity ≡ Ok tt
     → runs_in (commands (a ++ c)) ≡ runs_in (commands a) + runs_in (commands c)
 all_runs a c g h = ap runs_in (commands_joined a c g h) ∙ runs_both (commands a) (commands c)
 
@@ -43,7 +42,7 @@ module _ (m b a c rep : List ℕ) where
   abbrev filled : ℕ
   filled = report_size * runs_in (commands a)
 
-  module _ (good : card_valid (length m) b a (length rep) ≡ Good) where
+  module _ (good : card_valid (length m) b a (length rep) ≡ Ok tt) where
     first_is : first_call m b a c rep ≡ executed_call filled one rep
     first_is = call_is m b a rep good
 
@@ -57,12 +56,12 @@ module _ (m b a c rep : List ℕ) where
 
   -- ---- both calls pass their tests: so does the joint one
 
-  joint_passes : Apart m b a c rep → card_valid (length m) b (a ++ c) (length rep) ≡ Good
+  joint_passes : Apart m b a c rep → card_valid (length m) b (a ++ c) (length rep) ≡ Ok tt
   joint_passes x =
       let p : Passed (length m) b a (length rep) = passed (length m) b a (length rep) x.first_good in
       let q : Passed _ _ c (length (report_left m b a c rep)) = passed _ _ c (length (report_left m b a c rep)) x.second_good in
       let left : report_size * runs_in (commands c) ≤ length (drop filled rep) = rw (rest_is x.first_good) at q.room in
-      let card : (reading_of (a ++ c)).validity ≡ Good = joined_good a c p.read q.read x.short in
+      let card : (reading_of (a ++ c)).validity ≡ Ok tt = joined_good a c p.read q.read x.short in
       passes (length m) b (a ++ c) (length rep)
       (record {
         machine = p.machine;
@@ -79,7 +78,7 @@ module _ (m b a c rep : List ℕ) where
     runs : runs_in (commands (a ++ c)) ≡ runs_in (commands a) + runs_in (commands c)
     runs = all_runs a c given.first_card joint.read
 
-    first_passes : card_valid (length m) b a (length rep) ≡ Good
+    first_passes : card_valid (length m) b a (length rep) ≡ Ok tt
     first_passes =
         passes (length m) b a (length rep)
         (record {
@@ -98,7 +97,7 @@ module _ (m b a c rep : List ℕ) where
     left : Left m (first_call m b a c rep)
     left = card_leaves m b a rep first_passes given.memory_bytes given.image_bytes given.card_bytes
 
-    second_passes : card_valid (length (memory_left m b a c rep)) (image_left m b a c rep) c (length (report_left m b a c rep)) ≡ Good
+    second_passes : card_valid (length (memory_left m b a c rep)) (image_left m b a c rep) c (length (report_left m b a c rep)) ≡ Ok tt
     second_passes =
         passes _ _ c (length (report_left m b a c rep))
         (record {

@@ -1,6 +1,6 @@
 -- The tests that a card's call passed, what it then leaves, and that the image it leaves is good.
 -- Assumes nothing.
-use Rattle.std.specs.Prelude.{true, List, ◌≡◌, ℕ, ◌*◌, length}
+use Rattle.std.specs.Prelude.{true, List, ◌≡◌, ℕ, ◌*◌, length, Ok}
 use Rattle.call.specs.Call.{buffers}
 use Rattle.call.specs.Laws.{good_does}
 use Rattle.card.specs.Call.{card_call, executed_call, card_valid}
@@ -10,7 +10,6 @@ use Rattle.card.specs.Passed.{passed}
 use Rattle.image.specs.Decode.{state_from}
 use Rattle.layout.specs.Valid.{good_image}
 use Rattle.report.specs.Layout.{report_size}
-use Rattle.refusal.specs.declared.Validity.TheVariants.{Good}
 use Rattle.machine.specs.declared.State.{State}
 use Rattle.roundtrip.proofs.Good.{good_encodes, image_long_lem}
 use Rattle.roundtrip.proofs.Ranged.{image_bytes_lem}
@@ -25,7 +24,7 @@ use Rattle.joined.specs.Statement.{CardLeaves, Left}
 abbrev pub card_executed : List ℕ → List ℕ → List ℕ → Effect
 card_executed m b card = execute_of (reading_of card).commands (state_from b) m
 
-module _ (m b card rep : List ℕ) (good : card_valid (length m) b card (length rep) ≡ Good) where
+module _ (m b card rep : List ℕ) (good : card_valid (length m) b card (length rep) ≡ Ok tt) where
   pub call_is : card_call m b card rep ≡ executed_call (report_size * runs_in (reading_of card).commands) (card_executed m b card) rep
   unfolding card_call
   call_is = good_does (buffers m b rep) _ _ good

@@ -1,16 +1,14 @@
 -- The operands of the commands that are read of a card of bytes are within their values.
 -- Assumes nothing.
-use Rattle.std.specs.Prelude.{true, List, [], ◌∷◌, refl, ◌≡◌, suc, zero, ℕ, ◌%◌, ◌+◌, ◌/◌, ◌<◌, ◌≤◌, leb, ltb, drop, length}
+use Rattle.std.specs.Prelude.{true, List, [], ◌∷◌, refl, ◌≡◌, suc, zero, ℕ, ◌%◌, ◌+◌, ◌/◌, ◌<◌, ◌≤◌, leb, ltb, drop, length, Err, None, Ok, Some}
 use Rattle.std.proofs.Common.{subst, arith, get_or-drop}
 use borrow.Author.Tests.{eqb-true, ltb-true}
 use Rattle.std.proofs.Math.ListN.{get_or}
 use Rattle.command.specs.Card.{Reading, card_size, read_by, read_from, reading_of}
-use Rattle.command.specs.Command.{command_of, good_of, operands_of, parsed_of}
+use Rattle.command.specs.Command.{Standing, command_of, good_of, operands_of, parsed_of, reads}
 use Rattle.command.specs.Laws.{read_on}
 use Rattle.command.specs.declared.Command.{Command}
 use Rattle.command.specs.declared.Command.TheVariants.{Byte, Entry, Flag, Lines, Mmu, Register, Run, Time}
-use Rattle.command.specs.declared.Parsed.{Parsed}
-use Rattle.command.specs.declared.Parsed.TheVariants.{Bad, End, Next}
 use Rattle.layout.specs.Valid.{pending_good, zeros_good}
 use Rattle.endian.specs.Bytes.{byte_from}
 use Rattle.word.specs.Cases.{either, rest}
@@ -53,7 +51,7 @@ module _ (b : List ℕ) (small : Bytes b) where
       (λ h. tt)
       (λ h. tt)
 
-  parsed_fits : (at : ℕ) (x : Command) (next : ℕ) → parsed_of at b ≡ Next x next → Fits x
+  parsed_fits : (at : ℕ) (x : Command) (next : ℕ) → parsed_of at b ≡ reads x next → Fits x
   parsed_fits at x next e =
       let w : Whole at b x next = whole at b x next e in
       subst Fits w.is (fitting (byte_from b 0) w.known w.good)
@@ -65,11 +63,11 @@ module _ (card : List ℕ) (small : Bytes card) where
   drop_small at k = rw get_or-drop (small (at + k))
 
   read_by_lem :
-      (p : Parsed) → ((x : Command) (next : ℕ) → p ≡ Next x next → Fits x × AllFit (read_from card next).commands)
+      (p : Standing) → ((x : Command) (next : ℕ) → p ≡ reads x next → Fits x × AllFit (read_from card next).commands)
       → AllFit (read_by p (read_from card)).commands
-  read_by_lem End h = tt
-  read_by_lem (Bad r) h = tt
-  read_by_lem (Next x next) h = h x next refl
+  read_by_lem (Ok None) h = tt
+  read_by_lem (Err r) h = tt
+  read_by_lem (Ok (Some p)) h = h p.command p.next refl
 
   -- with `n` bytes left at most
   read_fits : (n at : ℕ) → length card ≤ at + n → AllFit (read_from card at).commands

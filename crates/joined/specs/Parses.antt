@@ -1,14 +1,12 @@
 -- A whole command at a position of a card: it stays what it is if more bytes come behind it, and another position changes nothing but the
 -- positions that are named.
 -- Assumes nothing.
-use Rattle.std.specs.Prelude.{Bool, false, true, List, ◌++◌, refl, ◌≡◌, ℕ, ◌+◌, ◌<◌, eqb, leb, get_or, length}
+use Rattle.std.specs.Prelude.{Bool, false, true, List, ◌++◌, refl, ◌≡◌, ℕ, ◌+◌, ◌<◌, eqb, leb, get_or, length, Err, None, Ok, Some}
 use Rattle.std.proofs.Common.{ap₂, ◌∙◌, add_assoc, arith, length-append}
 use Rattle.std.proofs.Math.ListN.{get_or-append}
-use Rattle.command.specs.Command.{command_of, good_of, operands_of, parsed_of}
+use Rattle.command.specs.Command.{Standing, command_of, good_of, operands_of, parsed_of, reads}
 use Rattle.command.specs.Whole.{Whole, by_number, parsed, picked, whole}
 use Rattle.command.specs.declared.Command.{Command}
-use Rattle.command.specs.declared.Parsed.{Parsed}
-use Rattle.command.specs.declared.Parsed.TheVariants.{Bad, End, Next}
 use Rattle.endian.specs.Bytes.{byte_from}
 use Rattle.refusal.specs.declared.Refusal.{Refusal}
 
@@ -38,23 +36,23 @@ module _ (b d : List ℕ) where
       (λ h. (cc (same 1 (omega arith), same 2 (omega arith)), cc (same 1 (omega arith), same 2 (omega arith))))
       (λ h. (refl, cc (same 1 (omega arith), same 2 (omega arith))))
 
-  pub parsed_before : (at : ℕ) (x : Command) (next : ℕ) → parsed_of at b ≡ Next x next → parsed_of at (b ++ d) ≡ Next x next
+  pub parsed_before : (at : ℕ) (x : Command) (next : ℕ) → parsed_of at b ≡ reads x next → parsed_of at (b ++ d) ≡ reads x next
   parsed_before at x next e =
       let w : Whole at b x next = whole at b x next e in
       let first : byte_from (b ++ d) 0 ≡ byte_from b 0 = same 0 (omega arith) in
       let k = alike (byte_from b 0) w.known w.within in
       let long : operands_of (byte_from b 0) < length (b ++ d) = omega (arith, length-append b d) in
-      parsed at (b ++ d) (byte_from b 0) first w.known long (k.0 ∙ w.good) ∙ ap₂ Next (k.1 ∙ w.is) w.on
+      parsed at (b ++ d) (byte_from b 0) first w.known long (k.0 ∙ w.good) ∙ ap₂ reads (k.1 ∙ w.is) w.on
 
 -- ---- at another position
 
 abbrev pub moved_refusal : ℕ → Refusal → Refusal
 moved_refusal k r = record { cause = r.cause; place = k + r.place }
 
-abbrev pub moved_parsed : ℕ → Parsed → Parsed
-moved_parsed k End = End
-moved_parsed k (Bad r) = Bad (moved_refusal k r)
-moved_parsed k (Next x next) = Next x (k + next)
+abbrev pub moved_parsed : ℕ → Standing → Standing
+moved_parsed k (Ok None) = Ok None
+moved_parsed k (Err r) = Err (moved_refusal k r)
+moved_parsed k (Ok (Some p)) = reads p.command (k + p.next)
 
 module _ (k at : ℕ) (b : List ℕ) where
   moved_by : (t u v w : Bool) → picked (k + at) b t u v w ≡ moved_parsed k (picked at b t u v w)

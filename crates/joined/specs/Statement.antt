@@ -1,14 +1,12 @@
 -- Two good cards handed in one after the other do what they do as one card, the second's bytes behind the first's, as long as the two
 -- together are a good card; the reports stand one behind the other.
 -- Assumes nothing.
-use Rattle.std.specs.Prelude.{true, List, ◌++◌, ◌≡◌, ℕ, ◌+◌, ◌≤◌, drop, length, take}
+use Rattle.std.specs.Prelude.{true, List, ◌++◌, ◌≡◌, ℕ, ◌+◌, ◌≤◌, drop, length, take, Ok}
 use Rattle.card.specs.Call.{card_call, card_valid}
 use Rattle.command.specs.Card.{card_size, reading_of}
 use Rattle.call.specs.Call.{Call, given_by}
-use Rattle.call.specs.declared.Answer.TheVariants.{Done}
 use Rattle.layout.specs.Layout.{image_size}
 use Rattle.layout.specs.Valid.{good_image}
-use Rattle.refusal.specs.declared.Validity.TheVariants.{Good}
 use Rattle.roundtrip.specs.Statement.{Bytes}
 
 -- ---- the law, for a memory, an image, two cards and a report
@@ -41,25 +39,25 @@ module _ (m b a c rep : List ℕ) where
     pub memory_bytes : Bytes m
     pub image_bytes : Bytes b
     pub card_bytes : Bytes a
-    pub first_card : (reading_of a).validity ≡ Good
-    pub joint_good : card_valid (length m) b (a ++ c) (length rep) ≡ Good
+    pub first_card : (reading_of a).validity ≡ Ok tt
+    pub joint_good : card_valid (length m) b (a ++ c) (length rep) ≡ Ok tt
 
   -- then
   pub record AsOne : Type 0 where
     -- neither call is refused
-    pub first_good : card_valid (length m) b a (length rep) ≡ Good
-    pub second_good : card_valid (length memory_left) image_left c (length report_left) ≡ Good
+    pub first_good : card_valid (length m) b a (length rep) ≡ Ok tt
+    pub second_good : card_valid (length memory_left) image_left c (length report_left) ≡ Ok tt
     -- the second call leaves the memory and the image that the joint one does
     pub memory : joint_call.lent.memory ≡ second_call.lent.memory
     pub image : joint_call.lent.image ≡ second_call.lent.image
     -- the joint call fills as many report bytes as the two, with the first's reports and the second's behind them
-    pub answer : joint_call.answer ≡ Done (given_by first_call.answer + given_by second_call.answer)
+    pub answer : joint_call.answer ≡ Ok (given_by first_call.answer + given_by second_call.answer)
     pub report : joint_call.lent.report ≡ take (given_by first_call.answer) first_call.lent.report ++ second_call.lent.report
 
   -- The joint call passes its tests wherever the two calls pass theirs and the cards are together no longer than one may be.
   pub record Apart : Type 0 where
-    pub first_good : card_valid (length m) b a (length rep) ≡ Good
-    pub second_good : card_valid (length memory_left) image_left c (length report_left) ≡ Good
+    pub first_good : card_valid (length m) b a (length rep) ≡ Ok tt
+    pub second_good : card_valid (length memory_left) image_left c (length report_left) ≡ Ok tt
     pub short : length (a ++ c) ≤ card_size
 
 -- ---- what a card leaves
@@ -80,10 +78,10 @@ TwoAsOne = (m b a c rep : List ℕ) → Given m b a c rep → AsOne m b a c rep
 
 -- `joint_good_lem`: where the two calls pass their tests so does the joint one
 abbrev pub JointGood : Type 0
-JointGood = (m b a c rep : List ℕ) → Apart m b a c rep → card_valid (length m) b (a ++ c) (length rep) ≡ Good
+JointGood = (m b a c rep : List ℕ) → Apart m b a c rep → card_valid (length m) b (a ++ c) (length rep) ≡ Ok tt
 
 -- `card_leaves`: what a card leaves can be handed to another call
 abbrev pub CardLeaves : Type 0
 CardLeaves =
-    (m b card rep : List ℕ) → card_valid (length m) b card (length rep) ≡ Good → Bytes m → Bytes b → Bytes card
+    (m b card rep : List ℕ) → card_valid (length m) b card (length rep) ≡ Ok tt → Bytes m → Bytes b → Bytes card
     → Left m (card_call m b card rep)

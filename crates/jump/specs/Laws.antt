@@ -1,23 +1,19 @@
 -- Laws of the conditions: opposites, and which are undefined.
 -- Assumes nothing.
-use Rattle.std.specs.Prelude.{Bool, false, not, true, List, [], map, ◌++◌, ◌∷◌, ◌≡◌, refl, ℕ, ◌-◌, ◌≤◌, ◌<◌, eqb, get_or, replicate}
+use Rattle.std.specs.Prelude.{Bool, false, not, true, List, [], map, ◌++◌, ◌∷◌, ◌≡◌, refl, ℕ, ◌-◌, ◌≤◌, ◌<◌, eqb, get_or, replicate, None, Some}
 use Rattle.std.proofs.Common.{⊎_elim, ap, sym, ◌∙◌, arith, ne_eqb}
 use Rattle.std.proofs.Math.ListN.{get_or-append, get_or-eq_default, get_or-map}
 use Rattle.std.proofs.lemmas.List.{get_or-replicate}
 use Rattle.word.specs.Laws.{order}
-use Rattle.jump.specs.Jump.{condition_of, condition_undefined, conditions, is_undefined, test_of}
-use Rattle.jump.specs.declared.Test.TheVariants.{Undefined}
+use Rattle.jump.specs.Jump.{condition_of, condition_undefined, conditions, is_undefined}
 
-opposite : (a b : Bool) → test_of b ≡ test_of a → test_of (not b) ≡ test_of (not a)
-opposite true true e = refl
-opposite false false e = refl
-opposite true false e = sym e
-opposite false true e = sym e
+opposite : (a b : Bool) → Some b ≡ Some a → Some (not b) ≡ Some (not a)
+opposite a b e = cc
 
 -- "8-Bh the opposites of 0-3"
 pub condition_opposite :
-    (code : ℕ) (v c s z b : Bool) → 8 ≤ code → code < 12 → test_of b ≡ condition_of (code - 8) v c s z
-    → test_of (not b) ≡ condition_of code v c s z
+    (code : ℕ) (v c s z b : Bool) → 8 ≤ code → code < 12 → Some b ≡ condition_of (code - 8) v c s z
+    → Some (not b) ≡ condition_of code v c s z
 unfolding condition_of
 condition_opposite code v c s z b low high e =
     ⊎_elim (λ k. at 8 z (omega arith) refl refl) (λ h9.
@@ -26,21 +22,17 @@ condition_opposite code v c s z b low high e =
     (order code 11)) (order code 10)) (order code 9)
   where
     at :
-        (k : ℕ) (a : Bool) → code ≡ k → condition_of (k - 8) v c s z ≡ test_of a → condition_of k v c s z ≡ test_of (not a)
-        → test_of (not b) ≡ condition_of code v c s z
+        (k : ℕ) (a : Bool) → code ≡ k → condition_of (k - 8) v c s z ≡ Some a → condition_of k v c s z ≡ Some (not a)
+        → Some (not b) ≡ condition_of code v c s z
     at k a q first second =
         opposite a b (e ∙ ap (λ (n : ℕ). condition_of (n - 8) v c s z) q ∙ first)
         ∙ sym second
         ∙ sym (ap (λ (n : ℕ). condition_of n v c s z) q)
 
 -- a number past Fh is no condition
-pub condition_past : (code : ℕ) (v c s z : Bool) → 16 ≤ code → condition_of code v c s z ≡ Undefined
+pub condition_past : (code : ℕ) (v c s z : Bool) → 16 ≤ code → condition_of code v c s z ≡ None
 unfolding condition_of
-condition_past code v c s z h = get_or-eq_default (conditions v c s z) Undefined h
-
-answered : (b : Bool) → is_undefined (test_of b) ≡ false
-answered true = refl
-answered false = refl
+condition_past code v c s z h = get_or-eq_default (conditions v c s z) None h
 
 -- which of the sixteen are undefined
 undefineds : List Bool
@@ -48,12 +40,12 @@ undefineds = replicate 13 false ++ (true ∷ false ∷ false ∷ [])
 
 undefineds_are : (v c s z : Bool) → map is_undefined (conditions v c s z) ≡ undefineds
 unfolding undefineds
-undefineds_are v c s z = simp answered
+undefineds_are v c s z = refl
 
 condition_listed : (code : ℕ) (v c s z : Bool) → is_undefined (condition_of code v c s z) ≡ get_or undefineds code true
 unfolding condition_of
 condition_listed code v c s z =
-    sym (get_or-map is_undefined (conditions v c s z) code Undefined)
+    sym (get_or-map is_undefined (conditions v c s z) code None)
     ∙ ap (λ (l : List Bool). get_or l code true) (undefineds_are v c s z)
 
 -- whether a condition is undefined does not depend on the flags

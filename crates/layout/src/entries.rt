@@ -1,47 +1,45 @@
 // TLB entries in bytes, the upper byte first.
-ghost use Rattle.std.specs.Prelude.{◌∷◌, [], ◌≡◌, ◌*◌, ◌+◌, ◌≤◌, length};
-ghost use Rattle.std.proofs.lemmas.List.Edits.{sets};
+ghost use Rattle.std.specs.Prelude.{◌≡◌, ◌+◌, ◌≤◌, length};
 ghost use Rattle.layout.specs.Entries as def;
+ghost use Rattle.layout.specs.EntryLaws.{entries_laid, entries_read};
 
 use crate::{ENTRY, FRAME, MIDDLE};
+use endian::Packed;
+
+// TLB entries, three bytes for each.
+pub struct Entries;
+
+impl Packed for Entries {
+    type Item = u32;
+
+    const SIZE: usize = ENTRY;
+
+    ghost SIZE = { 3 };
+
+    ghost one = { def.entry_from };
+
+    ghost many = { def.tlb_entries_from };
+
+    ghost stored = { def.entry_bytes };
+
+    ghost reads = { entries_read };
+
+    ghost laid = { entries_laid };
+
+    fn element_from(bytes: &[u8], at: usize) -> u32 {
+        entry_from(bytes, at)
+    }
+
+    #[tactic(auto, unfolding(crate::specs::Entries::entry_bytes))]
+    fn put_element(bytes: &mut [u8], at: usize, entry: u32) {
+        endian::put_bytes(bytes, at, &entry.to_be_bytes()[1..]);
+    }
+}
 
 // The entry at an offset.
 pub fn entry_from(bytes: &[u8], at: usize) -> u32
     requires { at + 3 ≤ length bytes.now }
     ensures { result ≡ def.entry_from bytes.now at }
 {
-    let page = bytes[at] as u32;
-    let middle = bytes[at + MIDDLE] as u32;
-    let frame = bytes[at + FRAME] as u32;
-    page * 65536 + middle * 256 + frame
-}
-
-// The entries from an offset on, as many as `entries` has.
-pub fn tlb_entries_from(bytes: &[u8], at: usize, entries: &mut [u32])
-    requires { at + 3 * length entries.old ≤ length bytes.now }
-    ensures { entries.new ≡ def.tlb_entries_from bytes.now at (length entries.old) }
-{
-    for k in 0..entries.len() {
-        entries[k] = entry_from(bytes, at + ENTRY * k);
-    }
-}
-
-// An entry stored at an offset.
-fn put_entry(bytes: &mut [u8], at: usize, entry: u32)
-    requires { at + 3 ≤ length bytes.old }
-    ensures { bytes.new ≡ sets bytes.old at (def.entry_bytes (entry ∷ [])) }
-{
-    bytes[at] = (entry / 65536 % 256) as u8;
-    bytes[at + MIDDLE] = (entry / 256 % 256) as u8;
-    bytes[at + FRAME] = (entry % 256) as u8;
-}
-
-// Entries stored from an offset on.
-pub fn put_entries(bytes: &mut [u8], at: usize, entries: &[u32])
-    requires { at + 3 * length entries.now ≤ length bytes.old }
-    ensures { bytes.new ≡ sets bytes.old at (def.entry_bytes entries.now) }
-{
-    for k in 0..entries.len() {
-        put_entry(bytes, at + ENTRY * k, entries[k]);
-    }
+    u32::from_be_bytes([0, bytes[at], bytes[at + MIDDLE], bytes[at + FRAME]])
 }

@@ -4,7 +4,7 @@
 mod entries;
 mod validity;
 
-pub use entries::{entry_from, put_entries, tlb_entries_from};
+pub use entries::{Entries, entry_from};
 pub use validity::{flag_good, good_image, pending_good, zeros_good};
 
 // The offsets.
@@ -41,6 +41,9 @@ pub const TIMER0: usize = 68;
 pub const TIMER1: usize = 76;
 
 pub const IMAGE: usize = 84;
+
+// A state image.
+pub type Image = [u8; IMAGE];
 
 // G0 to G11 and FP.
 pub const REGISTERS: usize = 13;

@@ -1,6 +1,6 @@
 -- The lines of a listing: a line for each report, in order, and in it the words for the numbers of the run's ending.
 -- Assumes nothing.
-use Rattle.std.specs.Prelude.{Bool, cond, ◌≡◌, suc, zero, ℕ, ◌*◌, ◌/◌, ◌<◌, eqb, drop, length, take}
+use Rattle.std.specs.Prelude.{Bool, cond, ◌≡◌, suc, zero, ℕ, ◌*◌, ◌/◌, ◌<◌, eqb, drop, length, take, Ok}
 use mathlib.Core.List.{List, [], flatten, map, ◌++◌, ◌∷◌}
 use Prim.Native.Char.{code}
 use Rattle.listing.specs.Listing.{ending_text, line_of, listing_of, number_text, runs_text}
@@ -9,7 +9,6 @@ use Rattle.machine.specs.declared.Ending.{Ending}
 use Rattle.machine.specs.Run.{run_of}
 use Rattle.machine.specs.declared.Ending.TheVariants as ending
 use Rattle.machine.specs.declared.State.{State}
-use Rattle.refusal.specs.declared.Validity.TheVariants.{Good}
 use Rattle.report.specs.Layout.{report_size}
 use Rattle.roundtrip.specs.Statement.{GoodState}
 use Rattle.text.specs.Text.{ascii, decimal_of}
@@ -50,19 +49,19 @@ runs report = length report / report_size
 
 -- `head_line`: its first line is `runs N`
 abbrev pub HeadLine : Type 0
-HeadLine = (report : List ℕ) → text_line 0 (listing_of Good report) ≡ runs_text (runs report)
+HeadLine = (report : List ℕ) → text_line 0 (listing_of (Ok tt) report) ≡ runs_text (runs report)
 
 -- `run_line`: behind it stands the line of each report, in order
 abbrev pub RunLine : Type 0
-RunLine = (report : List ℕ) (k : ℕ) → k < runs report → text_line (suc k) (listing_of Good report) ≡ line_of (report_at k report)
+RunLine = (report : List ℕ) (k : ℕ) → k < runs report → text_line (suc k) (listing_of (Ok tt) report) ≡ line_of (report_at k report)
 
 -- `last_Line`: and no other
 abbrev pub LastLine : Type 0
-LastLine = (report : List ℕ) → text_line (suc (runs report)) (listing_of Good report) ≡ []
+LastLine = (report : List ℕ) → text_line (suc (runs report)) (listing_of (Ok tt) report) ≡ []
 
 -- `listing_of_reports`: the same of a list of reports at once
 abbrev pub ListingOfReports : Type 0
-ListingOfReports = (rs : List (List ℕ)) → Reports rs → listing_of Good (flatten rs) ≡ runs_text (length rs) ++ flatten (map line_of rs)
+ListingOfReports = (rs : List (List ℕ)) → Reports rs → listing_of (Ok tt) (flatten rs) ≡ runs_text (length rs) ++ flatten (map line_of rs)
 
 -- ---- the words of a line, by the ending whose numbers a report has
 

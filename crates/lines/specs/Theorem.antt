@@ -1,13 +1,14 @@
 -- The lines of a listing, for every report, and the words in them.
 -- Assumes nothing.
-use Rattle.std.specs.Prelude.{Bool, not, true, ◌&&◌, ◌≡◌, suc, zero, ℕ, ◌%◌, ◌*◌, ◌+◌, ◌-◌, ◌/◌, ◌<◌, eqb, ltb, drop, get_or, length, take}
+use Rattle.std.specs.Prelude.{Bool, not, true, ◌&&◌, ◌≡◌, suc, zero, ℕ, ◌%◌, ◌*◌, ◌+◌, ◌-◌, ◌/◌, ◌<◌, eqb, ltb, drop, get_or, length, take, Ok}
 use mathlib.Core.List.{List, [], append_assoc, flatten, map, ◌++◌, ◌∷◌}
-use Rattle.std.proofs.Common.{ap, sym, ◌∙◌, arith, ne_eqb, length-append, drop_at, drop-drop, get_or-take, take_at}
+use Rattle.std.proofs.Common.{ap, sym, ◌∙◌, arith, ne_eqb, length-append, drop_at, drop-drop, take_at}
 use Rattle.std.proofs.Math.Path.{refl}
 use Rattle.std.proofs.lemmas.Bool.{not-true}
 use Rattle.report.specs.Layout.{ending_at, flag_at, number_at, pc_at, report_size, states_at, steps_at}
 use Rattle.endian.specs.Bytes.{word_from}
 use Rattle.word.specs.Cases.{both, either, rest, this}
+use Rattle.listing.proofs.Whole.{line_front}
 use Rattle.listing.specs.Listing.{counts_text, ending_text, line_of, lines_of, listing_of, newline, number_text, outcome_text, runs_text, space}
 use Rattle.text.specs.Text.{ascii, decimal_of, digit_of, hex_of}
 use Rattle.machine.specs.Answers.{ending_entered}
@@ -16,7 +17,6 @@ use Rattle.machine.specs.declared.Ending.{Ending}
 use Rattle.machine.specs.declared.Ending.TheVariants as ending
 use Rattle.machine.specs.declared.State.{State}
 use Rattle.readers.proofs.Shown.{run_number}
-use Rattle.refusal.specs.declared.Validity.TheVariants.{Good}
 use Rattle.roundtrip.specs.Statement.{GoodState}
 use Rattle.lines.specs.Statement.{EndingText, HeadLine, LastLine, ListingOfReports, NumberText, Reports, RunLine}
 use Rattle.lines.specs.Statement.{first_line, is_newline, later_lines, number_word, runs, text_line}
@@ -127,25 +127,6 @@ runs_is_line n = before (ascii "runs ") refl (before (decimal_of 20 n) (decimal_
 
 -- ---- the lines of a report
 
--- a line is of the 12 bytes at the front
-line_front : (r : List ℕ) → line_of (take report_size r) ≡ line_of r
-unfolding line_of
-line_front r =
-    rw (
-      get_or-take report_size r 0 0 (omega arith),
-      get_or-take report_size r 1 0 (omega arith),
-      get_or-take report_size r 2 0 (omega arith),
-      get_or-take report_size r 3 0 (omega arith),
-      get_or-take report_size r 4 0 (omega arith),
-      get_or-take report_size r 5 0 (omega arith),
-      get_or-take report_size r 6 0 (omega arith),
-      get_or-take report_size r 7 0 (omega arith),
-      get_or-take report_size r 8 0 (omega arith),
-      get_or-take report_size r 9 0 (omega arith),
-      get_or-take report_size r 10 0 (omega arith),
-      get_or-take report_size r 11 0 (omega arith),
-    )
-
 lines_at : (n : ℕ) (r : List ℕ) (k : ℕ) → k < n → text_line k (lines_of n r) ≡ line_of (drop (report_size * k) r)
 unfolding lines_of text_line
 lines_at zero r k h = absurd (omega arith)
@@ -165,11 +146,11 @@ no_more (suc n) r =
 
 -- ---- the listing
 
-listed : (report : List ℕ) → listing_of Good report ≡ runs_text (runs report) ++ lines_of (runs report) report
+listed : (report : List ℕ) → listing_of (Ok tt) report ≡ runs_text (runs report) ++ lines_of (runs report) report
 unfolding listing_of
 listed report = refl
 
-behind : (report : List ℕ) → later_lines (listing_of Good report) ≡ lines_of (runs report) report
+behind : (report : List ℕ) → later_lines (listing_of (Ok tt) report) ≡ lines_of (runs report) report
 behind report = ap later_lines (listed report) ∙ later_lines_lem (lines_of (runs report) report) (runs_is_line (runs report))
 
 pub head_line : HeadLine

@@ -1,12 +1,10 @@
 -- The listing of a bench card. Document 01, "Bench card and its listing": "Fields: ending, number or `-`, steps, states, PC, FLAG (four digits,
 -- capitals). A refusal prints only `refused N P`."
 -- Assumes nothing.
-use Rattle.std.specs.Prelude.{cond, List, [], ◌++◌, suc, zero, ℕ, ◌*◌, ◌+◌, ◌/◌, eqb, drop, get_or, length, take}
+use Rattle.std.specs.Prelude.{cond, List, [], ◌++◌, suc, zero, ℕ, ◌*◌, ◌+◌, ◌/◌, eqb, drop, get_or, length, take, Err, Ok}
 use Rattle.report.specs.Layout.{ending_at, flag_at, number_at, pc_at, report_size, states_at, steps_at}
 use Rattle.endian.specs.Bytes.{word_from}
-use Rattle.refusal.specs.Refusal.{cause_number}
-use Rattle.refusal.specs.declared.Validity.{Validity}
-use Rattle.refusal.specs.declared.Validity.TheVariants.{Good, Refused}
+use Rattle.refusal.specs.Refusal.{Validity, cause_number}
 use Rattle.text.specs.Text.{ascii, decimal_of, hex_of}
 
 abbrev pub space : List ℕ
@@ -56,8 +54,8 @@ refused_text n p = ascii "refused " ++ (decimal_of 10 n ++ (space ++ (decimal_of
 
 -- the listing of a card, by what the tests of its call say and the part of the report that it filled
 unfoldable pub listing_of : Validity → List ℕ → List ℕ
-listing_of (Refused r) report = refused_text (cause_number r.cause) r.place
-listing_of Good report = runs_text (length report / report_size) ++ lines_of (length report / report_size) report
+listing_of (Err r) report = refused_text (cause_number r.cause) r.place
+listing_of (Ok u) report = runs_text (length report / report_size) ++ lines_of (length report / report_size) report
 
 -- a text written over the front of a buffer, and cut where the buffer ends
 abbrev pub over : List ℕ → List ℕ → List ℕ

@@ -1,67 +1,70 @@
 // The listing of a bench card.
 #![tactic(auto)]
 
-ghost use Rattle.std.specs.Prelude.{◌≡◌, min, ◌/◌, ◌≤◌, length};
+ghost use Rattle.std.specs.Prelude.{◌≡◌, min, ◌/◌, length};
+ghost use Rattle.refusal.specs.Refusal.{cause_number};
 ghost use Rattle.report.specs.Layout.{report_size};
 ghost use Rattle.listing.specs.Listing as def;
-ghost use Rattle.text.specs.Written.{WroteText};
+ghost use Rattle.text.specs.Writer.{Wrote};
 
 use line::put_line;
-use refusal::Validity;
+use refusal::{Refusal, Validity};
 use report::REPORT;
-use text::{put, put_decimal, put_text};
+use text::Writer;
 
 mod line;
 
 // How many runs a report tells of, in a line.
-fn put_runs(text: &mut [u8], runs: u64) -> usize
-    ensures { WroteText text.old text.new 0 result (def.runs_text runs) }
+fn put_runs(to: &mut Writer<'_>, runs: u64)
+    ensures { Wrote to.old to.new (def.runs_text runs) }
 {
-    let mut at = put_text(text, 0, b"runs ");
-    at = put_decimal(text, at, 20, runs);
-    put(text, at, b'\n')
+    to.put_text(b"runs ");
+    to.put_decimal(20, runs);
+    to.put(b'\n');
 }
 
 // A line for each run of a report.
-fn put_lines(text: &mut [u8], from: usize, report: &[u8]) -> usize
-    requires { from ≤ length text.old }
-    ensures { WroteText text.old text.new from result (def.lines_of (length report.now / report_size) report.now) }
+fn put_lines(to: &mut Writer<'_>, report: &[u8])
+    ensures { Wrote to.old to.new (def.lines_of (length report.now / report_size) report.now) }
 {
-    let mut at = from;
-    let mut i = 0;
-    while i < report.len() / REPORT {
-        let start = REPORT * i;
-        at = put_line(text, at, &report[start..]);
-        i += 1;
+    let (runs, _) = report.as_chunks::<REPORT>();
+    for run in runs {
+        put_line(to, run);
     }
-    at
 }
 
 // Why a card is refused, and where.
-fn put_refused(text: &mut [u8], number: u64, place: u64) -> usize
-    ensures { WroteText text.old text.new 0 result (def.refused_text number place) }
+fn put_refused(to: &mut Writer<'_>, refusal: Refusal)
+    ensures { Wrote to.old to.new (def.refused_text (cause_number refusal.cause) refusal.place) }
 {
-    let mut at = put_text(text, 0, b"refused ");
-    at = put_decimal(text, at, 10, number);
-    at = put(text, at, b' ');
-    at = put_decimal(text, at, 10, place);
-    put(text, at, b'\n')
+    to.put_text(b"refused ");
+    to.put_decimal(10, u8::from(refusal.cause) as u64);
+    to.put(b' ');
+    to.put_decimal(10, refusal.place as u64);
+    to.put(b'\n');
+}
+
+#[tactic(auto, unfolding(crate::specs::Listing::listing_of))]
+fn put_listing(to: &mut Writer<'_>, validity: Validity, report: &[u8])
+    ensures { Wrote to.old to.new (def.listing_of validity report.now) }
+{
+    match validity {
+        Ok(()) => {
+            put_runs(to, (report.len() / REPORT) as u64);
+            put_lines(to, report);
+        }
+        Err(refusal) => put_refused(to, refusal),
+    }
 }
 
 // The listing of a card by what its call's tests say and by the part of the report that it filled, written to the front of `text` and cut where that ends.
 // Answers how many bytes were written.
+#[tactic(auto, using(crate::proofs::Whole::sets_over))]
 pub fn write_listing(validity: Validity, report: &[u8], text: &mut [u8]) -> usize
     ensures count { result ≡ min (length (def.listing_of validity report.now)) (length text.old) }
     ensures text { text.new ≡ def.over text.old (def.listing_of validity report.now) }
 {
-    match validity {
-        Validity::Refused(refusal) => {
-            let cause = refusal.cause;
-            put_refused(text, refusal::number_of(cause) as u64, refusal.place as u64)
-        }
-        Validity::Good => {
-            let at = put_runs(text, (report.len() / REPORT) as u64);
-            put_lines(text, at, report)
-        }
-    }
+    let mut to = Writer::new(text, 0);
+    put_listing(&mut to, validity, report);
+    to.position()
 }

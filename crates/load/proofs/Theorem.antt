@@ -1,11 +1,10 @@
 -- The busiest window's load: proofs of what is promised.
 -- Assumes nothing.
-use Rattle.std.specs.Prelude.{Bool, false, true, List, [], ◌++◌, refl, ◌≡◌, suc, zero, ℕ, ◌+◌, ◌<◌, ◌≤◌, ltb, drop, length, take}
+use Rattle.std.specs.Prelude.{Bool, false, true, Err, List, Ok, [], ◌++◌, refl, ◌≡◌, suc, zero, ℕ, ◌+◌, ◌<◌, ◌≤◌, ltb, drop, length, take}
 use Rattle.std.proofs.Common.{⊎_elim, ap, sym, ◌∙◌, eq-or-lt_of_le, le_antisymm, ltb-false, ltb-true, length-append, length-drop, take-append-drop, length-take-le, take_all, take_at}
 use native.Mathlib.Omega.{arith, max_cases}
 use Rattle.std.proofs.Math.Seq.{drop-append_seam}
 use Rattle.call.specs.Call.{called, unless_refused}
-use Rattle.call.specs.declared.Answer.TheVariants as answer
 use Rattle.refusal.specs.Laws.{between_range, range_between}
 use Rattle.refusal.specs.Refusal.{between, good_if}
 use Rattle.refusal.specs.declared.Cause.TheVariants.{WindowWidth}
@@ -99,7 +98,7 @@ refused_ten records width h = by (between 1 4096 width) refl
   where
     by :
         (t : Bool) → between 1 4096 width ≡ t
-        → unless_refused (good_if t WindowWidth) records (called (answer.Done (busiest_of records width)) records)
-        ≡ called (answer.Refused (record { cause = WindowWidth; place = 0 })) records
+        → unless_refused (good_if t WindowWidth) records (called (Ok (busiest_of records width)) records)
+        ≡ called (Err (record { cause = WindowWidth; place = 0 })) records
     by true e = absurd (h (between_range 1 4096 width e))
     by false e = refl

@@ -1,8 +1,7 @@
 -- What is promised of the busiest window's load. Document 02, 6/14.
 -- Assumes nothing.
-use Rattle.std.specs.Prelude.{List, [], ◌++◌, ◌≡◌, ℕ, ◌*◌, ◌<◌, ◌≤◌, length}
+use Rattle.std.specs.Prelude.{Err, List, Ok, [], ◌++◌, ◌≡◌, ℕ, ◌*◌, ◌<◌, ◌≤◌, length}
 use Rattle.call.specs.Call.{called}
-use Rattle.call.specs.declared.Answer.TheVariants as answer
 use Rattle.refusal.specs.Laws.{Range}
 use Rattle.refusal.specs.declared.Cause.TheVariants.{WindowWidth}
 use Rattle.load.specs.Call.{busiest_call}
@@ -47,10 +46,10 @@ EmptyRun = (width : ℕ) → busiest_of [] width ≡ 0
 -- `call_gives`: with a width from 1 to 4,096 the busiest window's records on, whatever the records are; they are kept
 abbrev pub CallGives : Type 0
 CallGives =
-    (records : List ℕ) (width : ℕ) → Range 1 4096 width → busiest_call records width ≡ called (answer.Done (busiest_of records width)) records
+    (records : List ℕ) (width : ℕ) → Range 1 4096 width → busiest_call records width ≡ called (Ok (busiest_of records width)) records
 
 -- `refused_ten`: "A width of 0 or above 4,096 is refused with 10", with P=0 and the records as they were
 abbrev pub RefusedTen : Type 0
 RefusedTen =
     (records : List ℕ) (width : ℕ) → (Range 1 4096 width → ⊥)
-    → busiest_call records width ≡ called (answer.Refused (record { cause = WindowWidth; place = 0 })) records
+    → busiest_call records width ≡ called (Err (record { cause = WindowWidth; place = 0 })) records

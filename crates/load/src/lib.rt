@@ -12,6 +12,7 @@ use refusal::{Cause, Validity, between, good_if};
 use window::busiest_load;
 
 // Refusal 10.
+#[tactic(auto, unfolding(crate::specs::Call::width_valid))]
 fn validate_width(width: u32) -> Validity
     ensures { result ≡ def.width_valid width }
 {
@@ -19,11 +20,10 @@ fn validate_width(width: u32) -> Validity
 }
 
 // The busiest window of a run of tick records; it gives its records on.
+#[tactic(auto, using(crate::proofs::Laws::busiest_small), unfolding(crate::specs::Call::busiest_call))]
 pub fn busiest(records: &[u8], width: u32) -> Answer
     ensures { called result records.now ≡ def.busiest_call records.now width }
 {
-    match validate_width(width) {
-        Validity::Refused(refusal) => Answer::Refused(refusal),
-        Validity::Good => Answer::Done(busiest_load(records, width as usize) as u32),
-    }
+    validate_width(width)?;
+    Ok(busiest_load(records, width as usize) as u32)
 }

@@ -1,10 +1,8 @@
 -- What a look at the fault record answers, and the image after it. Document 02, 1/14: "it must show the fault cause and leave it there".
 -- Assumes nothing.
-use Rattle.std.specs.Prelude.{List, ℕ, ◌*◌, ◌+◌}
-use Rattle.call.specs.Call.{Called, called, unless_refused}
+use Rattle.std.specs.Prelude.{List, ℕ, ◌*◌, ◌+◌, Ok}
+use Rattle.call.specs.Call.{Answer, Called, called, unless_refused}
 use Rattle.call.specs.Valid.{image_valid}
-use Rattle.call.specs.declared.Answer.{Answer}
-use Rattle.call.specs.declared.Answer.TheVariants.{Done}
 use Rattle.fault.specs.declared.FaultRecord.{FaultRecord}
 use Rattle.image.specs.Decode.{state_from}
 use Rattle.machine.specs.Look.{look_of}
@@ -15,4 +13,4 @@ fault_word r = r.cause * 16777216 + r.missed * 65536 + r.violation
 
 -- a look, which is lent the image alone: refusals 2 and 3, else the record; the image is kept
 unfoldable pub fault_call : List ℕ → Called Answer (List ℕ)
-fault_call b = unless_refused (image_valid b) b (called (Done (fault_word (look_of (state_from b)).given)) b)
+fault_call b = unless_refused (image_valid b) b (called (Ok (fault_word (look_of (state_from b)).given)) b)

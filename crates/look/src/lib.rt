@@ -7,9 +7,8 @@ ghost use Rattle.look.specs.Call as def;
 
 use call::Answer;
 use fault::FaultRecord;
-use refusal::Validity;
 
-// The record in one number: cause × 2^24 + missed page × 2^16 + violation address.
+// The record in one number, as C has it: cause × 2^24 + missed page × 2^16 + violation address.
 fn fault_word(fault: FaultRecord) -> u32
     ensures { result ≡ def.fault_word fault }
 {
@@ -17,14 +16,10 @@ fn fault_word(fault: FaultRecord) -> u32
 }
 
 // A look; it gives the record.
+#[tactic(auto, unfolding(crate::specs::Call::fault_call))]
 pub fn look(image: &[u8]) -> Answer
     ensures { called result image.now ≡ def.fault_call image.now }
 {
-    match call::validate_image(image) {
-        Validity::Refused(refusal) => Answer::Refused(refusal),
-        Validity::Good => {
-            let looked = image::read_image(image).look();
-            Answer::Done(fault_word(looked.given))
-        }
-    }
+    call::validate_image(image)?;
+    Ok(fault_word(image::read_image(image.as_array().unwrap()).look().given))
 }

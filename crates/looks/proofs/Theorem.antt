@@ -1,6 +1,6 @@
 -- Looks at the fault record, on calls: what is shown of states, carried over to the images.
 -- Assumes nothing.
-use Rattle.std.specs.Prelude.{List, ◌⊎◌, ◌≡◌, refl, ℕ, suc, zero, ◌+◌, ◌≤◌, get_or, length}
+use Rattle.std.specs.Prelude.{List, ◌⊎◌, ◌≡◌, refl, ℕ, suc, zero, ◌+◌, ◌≤◌, get_or, length, Err, Ok}
 use Rattle.std.proofs.Common.{⊎_elim, ap, sym, ◌∙◌, arith}
 use Rattle.calls.specs.Statement as isolated
 use Rattle.calls.proofs.Theorem.{isolated_calls}
@@ -21,12 +21,8 @@ use Rattle.machine.specs.declared.State.{State}
 use Rattle.readers.specs.Between.{look_within}
 use Rattle.readers.proofs.Shown.{run_shows}
 use Rattle.readers.specs.Statement.{looked_between}
-use Rattle.call.specs.Call.{Call, Called, buffers}
+use Rattle.call.specs.Call.{Answer, Call, Called, buffers}
 use Rattle.call.specs.Laws.{by_tests, good_does}
-use Rattle.call.specs.declared.Answer.{Answer}
-use Rattle.call.specs.declared.Answer.TheVariants.{Done}
-use Rattle.refusal.specs.declared.Validity.{Validity}
-use Rattle.refusal.specs.declared.Validity.TheVariants.{Good, Refused}
 use Rattle.report.specs.Layout.{report_size}
 use Rattle.report.specs.Report.{flag_shown, pc_shown, report_of}
 use Rattle.roundtrip.proofs.Good.{good_encodes, image_long_lem}
@@ -35,6 +31,7 @@ use Rattle.roundtrip.proofs.Runs.{run_sound, sound_decoded}
 use Rattle.roundtrip.specs.Images.{encoded}
 use Rattle.roundtrip.specs.Statement.{Byte, Sound, SoundMachine, Word}
 use Rattle.looks.specs.Statement.{AsOne, CallShows, CallsBetween, CallsWithin, Given, IsolatedLooks, LookAfter, LookImage, LookKeeps, LookParts, Parts, looked_calls, record_in}
+use Rattle.refusal.specs.Refusal.{Validity}
 
 -- ---- one look
 
@@ -43,12 +40,12 @@ unfolding fault_call
 look_keeps b = by_tests b _ (λ (c : Called Answer (List ℕ)). c.lent ≡ b) (image_valid b) (λ r e. refl) (λ e. refl)
 
 -- a look that passes its tests, by the bytes of the image
-look_bytes : (b : List ℕ) → image_valid b ≡ Good → (fault_call b).answer ≡ Done (fault_word (record_in b))
+look_bytes : (b : List ℕ) → image_valid b ≡ Ok tt → (fault_call b).answer ≡ Ok (fault_word (record_in b))
 unfolding fault_call state_from
 look_bytes b e = rw e
 
 -- a record whose numbers fit can be read back
-parts_of : (r : FaultRecord) → Byte r.cause → Byte r.missed → Word r.violation → Parts r (Done (fault_word r))
+parts_of : (r : FaultRecord) → Byte r.cause → Byte r.missed → Word r.violation → Parts r (Ok (fault_word r))
 parts_of r c m v = record { number = fault_word r; done = refl; small = omega arith; cause = omega arith; missed = omega arith; violation = omega arith }
 
 pub look_parts : LookParts
@@ -81,7 +78,7 @@ module _ (m b : List ℕ) (n : ℕ) (rep : List ℕ) (g : Given m b rep) where
   left_good : ImageGood (image_of done.state)
   left_good = record { size = image_long_lem done.state left.sound.good; fields = good_encodes done.state left.sound.good }
 
-  left_passes : image_valid (image_of done.state) ≡ Good
+  left_passes : image_valid (image_of done.state) ≡ Ok tt
   left_passes = image_passes _ left_good
 
   -- can be handed to another call
@@ -99,7 +96,7 @@ module _ (m b : List ℕ) (n : ℕ) (rep : List ℕ) (g : Given m b rep) where
   back : state_from (image_of done.state) ≡ done.state
   back = decoded done.state left.sound.good left.sound.ranged
 
-  look_left : (fault_call (run_call m b n rep).lent.image).answer ≡ Done (fault_word done.state.fault)
+  look_left : (fault_call (run_call m b n rep).lent.image).answer ≡ Ok (fault_word done.state.fault)
   unfolding fault_call
   look_left = rw (call_is, left_passes, back)
 
@@ -200,7 +197,7 @@ module _ (m m' b : List ℕ) (n : ℕ) (rep : List ℕ) (g : isolated.Given m m'
   both : isolated.Together m m' b rep c c'
   both = isolated_calls m m' b n rep long
 
-  passed_alike : run_valid (length m) b (length rep) ≡ Good → (fault_call c.lent.image).answer ≡ (fault_call c'.lent.image).answer
+  passed_alike : run_valid (length m) b (length rep) ≡ Ok tt → (fault_call c.lent.image).answer ≡ (fault_call c'.lent.image).answer
   passed_alike e =
       let given : Given m b rep = record { memory_bytes = g.memory_bytes; image_bytes = g.image_bytes; passed = e } in
       let given' : Given m' b rep = record { memory_bytes = g.memory_bytes'; image_bytes = g.image_bytes; passed = rw (← long) e } in
@@ -210,8 +207,8 @@ module _ (m m' b : List ℕ) (n : ℕ) (rep : List ℕ) (g : isolated.Given m m'
       (sym (look_bytes c'.lent.image (rw (call_is m' b n rep given') (left_passes m' b n rep given'))))
 
   alike_by : (v : Validity) → run_valid (length m) b (length rep) ≡ v → (fault_call c.lent.image).answer ≡ (fault_call c'.lent.image).answer
-  alike_by Good e = passed_alike e
-  alike_by (Refused r) e = let refused = both.refused r e in rw (refused.0, refused.1)
+  alike_by (Ok u) e = passed_alike e
+  alike_by (Err r) e = let refused = both.refused r e in rw (refused.0, refused.1)
 
   looks_alike : (fault_call c.lent.image).answer ≡ (fault_call c'.lent.image).answer
   looks_alike = alike_by (run_valid (length m) b (length rep)) refl

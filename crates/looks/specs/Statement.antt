@@ -1,7 +1,7 @@
 -- The look at the fault record on calls, by the bytes that they are lent: `fault_call` (look/Call), the contract of `tac_fault`, beside `run_call`
 -- (direct/Call). Document 02, 1/14: "a look between two steps changes nothing a later step gives."
 -- Assumes nothing.
-use Rattle.std.specs.Prelude.{List, ◌++◌, ◌≡◌, ℕ, ◌%◌, ◌+◌, ◌/◌, ◌<◌, ◌≤◌, drop, length}
+use Rattle.std.specs.Prelude.{List, ◌++◌, ◌≡◌, ℕ, ◌%◌, ◌+◌, ◌/◌, ◌<◌, ◌≤◌, drop, length, Ok}
 use Rattle.calls.specs.Statement as isolated
 use Rattle.direct.specs.Call.{run_call}
 use Rattle.endian.specs.Bytes.{byte_from, word_from}
@@ -17,10 +17,7 @@ use Rattle.machine.specs.Run.{Ran, run_of}
 use Rattle.machine.specs.Through.{later}
 use Rattle.machine.specs.declared.Ending.TheVariants as ending
 use Rattle.readers.specs.Statement.{LastShows, looked_between}
-use Rattle.call.specs.Call.{Call}
-use Rattle.call.specs.declared.Answer.{Answer}
-use Rattle.call.specs.declared.Answer.TheVariants.{Done}
-use Rattle.refusal.specs.declared.Validity.TheVariants.{Good}
+use Rattle.call.specs.Call.{Answer, Call}
 use Rattle.report.specs.Layout.{ending_at, number_at, report_size}
 use Rattle.report.specs.Report.{report_of_ran}
 use Rattle.roundtrip.specs.Statement.{Bytes}
@@ -34,7 +31,7 @@ LookKeeps = (b : List ℕ) → (fault_call b).lent ≡ b
 -- an answer that gives a record: a number of 32 bits with these parts
 pub record Parts (r : FaultRecord) (answer : Answer) : Type 0 where
   pub number : ℕ
-  pub done : answer ≡ Done number
+  pub done : answer ≡ Ok number
   pub small : number < 4294967296
   pub cause : number / 16777216 ≡ r.cause
   pub missed : number / 65536 % 256 ≡ r.missed
@@ -46,23 +43,23 @@ record_in b = record { violation = word_from b violation_at; cause = byte_from b
 
 -- `look_parts`: the parts of the answer of a look that is not refused are the bytes of the image
 abbrev pub LookParts : Type 0
-LookParts = (b : List ℕ) → Bytes b → image_valid b ≡ Good → Parts (record_in b) (fault_call b).answer
+LookParts = (b : List ℕ) → Bytes b → image_valid b ≡ Ok tt → Parts (record_in b) (fault_call b).answer
 
 -- `look_image`: and the image is that of the state that the look leaves
 abbrev pub LookImage : Type 0
-LookImage = (b : List ℕ) → Bytes b → image_valid b ≡ Good → image_of (look_of (state_from b)).state ≡ (fault_call b).lent
+LookImage = (b : List ℕ) → Bytes b → image_valid b ≡ Ok tt → image_of (look_of (state_from b)).state ≡ (fault_call b).lent
 
 -- a call of a run that passes its tests, on bytes
 pub record Given (m b rep : List ℕ) : Type 0 where
   pub memory_bytes : Bytes m
   pub image_bytes : Bytes b
-  pub passed : run_valid (length m) b (length rep) ≡ Good
+  pub passed : run_valid (length m) b (length rep) ≡ Ok tt
 
 -- `look_after`: a look at the image that a run left is one at the state that it left
 abbrev pub LookAfter : Type 0
 LookAfter =
     (m b : List ℕ) (n : ℕ) (rep : List ℕ) → Given m b rep
-    → (fault_call (run_call m b n rep).lent.image).answer ≡ Done (fault_word (look_of (run_of n (state_from b) m).state).given)
+    → (fault_call (run_call m b n rep).lent.image).answer ≡ Ok (fault_word (look_of (run_of n (state_from b) m).state).given)
 
 -- a run of n, and a run of k on the memory and the image that it left
 abbrev pub calls_apart : List ℕ → List ℕ → ℕ → ℕ → List ℕ → List ℕ → Call

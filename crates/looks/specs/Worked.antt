@@ -1,7 +1,7 @@
 -- A worked look. A user program stores where it has no right: the kernel is entered with 11, and a look shows cause 1 and the address. The
 -- kernel's IN of A4h then still reads the cause, a look after it shows cause 0, and a second IN reads 0.
 -- Assumes nothing.
-use Rattle.std.specs.Prelude.{List, [], ◌∷◌, ◌≡◌, refl, ℕ, ◌+◌, replicate, set}
+use Rattle.std.specs.Prelude.{List, [], ◌∷◌, ◌≡◌, refl, ℕ, ◌+◌, replicate, set, Ok}
 use Rattle.std.proofs.lemmas.List.Edits.{sets}
 use Rattle.decode.specs.Decode.{first_of, has_second, operand_of}
 use Rattle.decode.specs.Instructions.{eight, row, rows, single}
@@ -27,7 +27,6 @@ use Rattle.mmu.specs.Access.{access_of, aligned_access, by_entry, by_tlb}
 use Rattle.mmu.specs.Lookup.{lookup_from, lookup_of}
 use Rattle.plan.specs.End.{end_of}
 use Rattle.call.specs.Call.{Call}
-use Rattle.call.specs.declared.Answer.TheVariants.{Done}
 use Rattle.report.specs.Layout.{number_at, report_size}
 use Rattle.report.specs.Report.{report_of}
 use Rattle.status.specs.Flag.{flag_word}
@@ -74,11 +73,11 @@ pub record Looks : Type 0 where
   -- the report of the program's run: entered with 11
   pub number : byte_from fault.lent.report number_at ≡ 11
   -- the look then: cause 1, missed page 0, violation address 1210h
-  pub shown : (fault_call fault.lent.image).answer ≡ Done 0x01001210
+  pub shown : (fault_call fault.lent.image).answer ≡ Ok 0x01001210
   -- the kernel's first IN reads that cause, to G0
   pub read : word_from first_in.lent.image regs_at ≡ 1
   -- the look after it: cause 0, the rest as before
-  pub gone : (fault_call first_in.lent.image).answer ≡ Done 0x00001210
+  pub gone : (fault_call first_in.lent.image).answer ≡ Ok 0x00001210
   -- the second IN reads 0, to G2
   pub read_again : word_from second_in.lent.image (regs_at + 4) ≡ 0
 

@@ -1,5 +1,1 @@
-pub mod Answers
-pub mod Cases
-pub mod Codes
-pub mod PortCases
 pub mod Turn

@@ -1,6 +1,6 @@
 -- What every step keeps: what marks keep of a state, its plan keeps; a memory's length; and the condition, where the step enters the kernel.
 -- Assumes nothing.
-use Rattle.std.specs.Prelude.{Bool, ◌≡◌, ℕ, eqb, get_or, set}
+use Rattle.std.specs.Prelude.{Bool, Option, None, Some, Result, Ok, Err, ◌≡◌, ℕ, eqb, get_or, set}
 use mathlib.Core.List.{List}
 use Rattle.std.proofs.Math.Path.{refl}
 use Rattle.std.proofs.Common.{arith}
@@ -11,16 +11,15 @@ use Rattle.mmu.specs.Access.{access_of}
 use Rattle.mmu.specs.Entry.{marked}
 use Rattle.mmu.specs.Laws.{access_keeps}
 use Rattle.mmu.proofs.Laws.{access_cases}
-use Rattle.memory.specs.Memory.{stored}
-use Rattle.mmu.specs.declared.Access.{Access}
-use Rattle.mmu.specs.declared.Access.TheVariants as access
+use Rattle.memory.specs.Memory.{stored, write_at}
 use Rattle.mmu.specs.declared.Accessed.{Accessed}
+use Rattle.mmu.specs.declared.Fault.{Fault}
 use Rattle.mmu.specs.declared.Right.{Right}
 use Rattle.mmu.specs.declared.Right.TheVariants as right
 use Rattle.memory.specs.declared.Store.{Store}
-use Rattle.memory.specs.declared.Store.TheVariants as store
 use Rattle.word.specs.Cases.{either}
 use Rattle.word.specs.Word.{plus}
+use Rattle.word.specs.declared.Width.{Width}
 use Rattle.word.specs.declared.Width.TheVariants as width
 use Rattle.machine.specs.Enter.{Outcome, enter_of}
 use Rattle.status.specs.Saved.{pushed}
@@ -47,9 +46,9 @@ use Rattle.machine.specs.declared.State.{State}
 
 -- what the marks of an entry keep of a TLB, the data access of an instruction keeps
 module _ (P : List ℕ → Type 0) (mark : (t : List ℕ) (k : ℕ) (right : Right) → P t → P (set t k (marked right (get_or t k 0)))) where
-  second_keeps : (x : Access) (on : Bool) (tlb m : List ℕ) (a : ℕ) → P tlb → P (read_second x on tlb m a).tlb
-  second_keeps (access.At at) on tlb m a h = access_keeps P mark (access_cases width.Word on tlb right.Read (plus a 2)) h
-  second_keeps (access.Fails why) on tlb m a h = h
+  second_keeps : (x : Result ℕ Fault) (on : Bool) (tlb m : List ℕ) (a : ℕ) → P tlb → P (read_second x on tlb m a).tlb
+  second_keeps (Ok at) on tlb m a h = access_keeps P mark (access_cases width.Word on tlb right.Read (plus a 2)) h
+  second_keeps (Err why) on tlb m a h = h
 
   pub transfer_keeps : (need : Need) (on : Bool) (tlb m : List ℕ) (value : ℕ) → P tlb → P (transfer_of need on tlb m value).tlb
   unfolding transfer_of
@@ -94,11 +93,14 @@ module _ (P : State → Type 0) (mark : (st : State) (k : ℕ) (right : Right) �
 -- ---- the memory's length
 
 module _ (m : List ℕ) where
-  pub stored_long : (s : Store) → length (stored s m) ≡ length m
+  written_long : (w : Width) (a v : ℕ) → length (write_at w m a v) ≡ length m
+  written_long width.Byte a v = simp length-set
+  written_long width.Word a v = simp length-set
+
+  pub stored_long : (s : Option Store) → length (stored s m) ≡ length m
   unfolding stored
-  stored_long store.Nothing = refl
-  stored_long (store.At width.Byte a v) = simp length-set
-  stored_long (store.At width.Word a v) = simp length-set
+  stored_long None = refl
+  stored_long (Some s) = written_long s.width s.address s.value
 
   enter_long : (st : State) (pending number saved : ℕ) → length (enter_of st pending number saved m).memory ≡ length m
   unfolding pushed
@@ -108,8 +110,8 @@ module _ (m : List ℕ) where
   commit_long : (x : Plan) (st : State) → length (commit x st m).memory ≡ length m
   unfolding commit
   commit_long (Interrupt line) st = enter_long st _ _ _
-  commit_long (Violation why a) st = enter_long _ _ _ _
-  commit_long (Trap number saved) st = enter_long st _ _ _
+  commit_long (Violation v) st = enter_long _ _ _ _
+  commit_long (Trap why saved) st = enter_long st _ _ _
   commit_long (Perform op) st = stored_long op.store
 
 pub step_memory_long : (st : State) (m : List ℕ) → length (step_of st m).memory ≡ length m
@@ -138,8 +140,8 @@ module _ (c : Condition) (m : List ℕ) (number pc flag : ℕ) where
   commit_stays : (x : Plan) (st : State) → st.condition ≡ c → Stays (commit x st m)
   unfolding commit
   commit_stays (Interrupt line) st e = enter_stays st _ _ _ e
-  commit_stays (Violation why a) st e = enter_stays (noted why a st) _ _ _ e
-  commit_stays (Trap n saved) st e = enter_stays st _ _ _ e
+  commit_stays (Violation v) st e = enter_stays (noted v.fault v.address st) _ _ _ e
+  commit_stays (Trap why saved) st e = enter_stays st _ _ _ e
   commit_stays (Perform op) st e = record { kept = λ h. absurd (no_entry op number pc flag h) }
 
 -- a step that enters the kernel keeps the condition

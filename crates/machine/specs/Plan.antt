@@ -2,18 +2,17 @@
 -- first ... Else: fetch, undefined (14), privilege (13), second word, operand access, zero divisor (12)." The state goes through the
 -- stages with the TLB as the accesses leave it, and nothing else of it changes.
 -- Assumes nothing.
-use Rattle.std.specs.Prelude.{Bool, cond, not, ◌&&◌, List, ℕ}
+use Rattle.std.specs.Prelude.{Bool, cond, not, ◌&&◌, List, Option, None, Some, Result, Ok, Err, ℕ}
 use Rattle.decode.specs.Decode.{first_of, instruction_of}
-use Rattle.decode.specs.declared.First.{First}
-use Rattle.decode.specs.declared.First.TheVariants.{Defined, Undefined}
 use Rattle.decode.specs.declared.Instruction.{Instruction}
 use Rattle.decode.specs.declared.Privilege.{Privilege}
 use Rattle.decode.specs.declared.Shape.{Shape}
 use Rattle.memory.specs.Memory.{word_at}
-use Rattle.mmu.specs.declared.Access.{Access}
-use Rattle.mmu.specs.declared.Access.TheVariants as access
+use Rattle.mmu.specs.Access.{violation}
 use Rattle.mmu.specs.declared.Accessed.{Accessed}
-use Rattle.plan.specs.End.{end_of, not_permitted, undefined_word}
+use Rattle.mmu.specs.declared.Fault.{Fault}
+use Rattle.mmu.specs.declared.Violation as mmu
+use Rattle.plan.specs.End.{end_of}
 use Rattle.transfer.specs.Need.{address_of, need_of, value_stored}
 use Rattle.transfer.specs.Transfer.{fetch_of, transfer_of}
 use Rattle.status.specs.Flag.{permitted_in, taken_on}
@@ -25,10 +24,10 @@ use Rattle.machine.specs.State.{with_tlb}
 use Rattle.transfer.specs.declared.Need.{Need}
 use Rattle.plan.specs.declared.Plan.{Plan}
 use Rattle.plan.specs.declared.Plan.TheVariants.{Interrupt, Trap, Violation}
+use Rattle.plan.specs.declared.Trap.TheVariants as trap
 use Rattle.machine.specs.declared.Planned.{Planned}
 use Rattle.machine.specs.declared.State.{State}
-use Rattle.transfer.specs.declared.Transfer.{Transfer}
-use Rattle.transfer.specs.declared.Transfer.TheVariants as transfer
+use Rattle.transfer.specs.declared.Data.{Data}
 use Rattle.transfer.specs.declared.Transferred.{Transferred}
 
 abbrev pub planned : Plan → State → Planned
@@ -38,10 +37,14 @@ planned p st = record { plan = p; state = st }
 abbrev pub translates : State → Bool
 translates st = st.mmu && not st.flags.p
 
+-- the kernel is entered for the logical address `a`
+abbrev pub violated : Fault → ℕ → State → Planned
+violated why a st = planned (Violation (violation why a)) st
+
 -- Go on with the physical address, or enter the kernel for the logical address `a`.
-abbrev pub through_access : Access → State → ℕ → (ℕ → Planned) → Planned
-through_access (access.At at) st a goOn = goOn at
-through_access (access.Fails why) st a goOn = planned (Violation why a) st
+abbrev pub through_access : Result ℕ Fault → State → ℕ → (ℕ → Planned) → Planned
+through_access (Ok at) st a goOn = goOn at
+through_access (Err why) st a goOn = violated why a st
 
 -- the fetch of a word
 abbrev pub fetched : State → ℕ → Accessed
@@ -60,8 +63,8 @@ abbrev pub taken : State → ℕ → Bool
 taken st rd = taken_on rd st.flags.v st.flags.c st.flags.s st.flags.z
 
 -- the transfer was done, or the kernel is entered
-abbrev pub plan_transfer : Transfer → State → Instruction → ℕ → ℕ → ℕ → Plan
-plan_transfer (transfer.Done source second stores) st ins held address following =
+abbrev pub plan_transfer : Result Data mmu.Violation → State → Instruction → ℕ → ℕ → ℕ → Plan
+plan_transfer (Ok done) st ins held address following =
     end_of ins.flow
     (record {
       code = ins.code;
@@ -70,13 +73,13 @@ plan_transfer (transfer.Done source second stores) st ins held address following
       address = address;
       following = following;
       cost = ins.cost;
-      source = source;
-      second = second;
-      store = stores;
+      source = done.source;
+      second = done.second;
+      store = done.store;
     })
     st.pc
     (taken st ins.rd)
-plan_transfer (transfer.Fails why a) st ins held address following = Violation why a
+plan_transfer (Err v) st ins held address following = Violation v
 
 -- "operand access"
 unfoldable pub plan_operand : State → List ℕ → Instruction → ℕ → Planned
@@ -101,10 +104,10 @@ abbrev pub permitted : State → Privilege → Bool
 permitted st privilege = permitted_in privilege st.flags.p st.flags.i
 
 -- "undefined (14), privilege (13)"
-unfoldable pub plan_first : First → State → List ℕ → Planned
-plan_first Undefined st m = planned (Trap undefined_word st.pc) st
-plan_first (Defined shape) st m =
-    cond (permitted st shape.privilege) (plan_second st m shape) (planned (Trap not_permitted st.pc) st)
+unfoldable pub plan_first : Option Shape → State → List ℕ → Planned
+plan_first None st m = planned (Trap trap.Undefined st.pc) st
+plan_first (Some shape) st m =
+    cond (permitted st shape.privilege) (plan_second st m shape) (planned (Trap trap.NotPermitted st.pc) st)
 
 -- "fetch"
 unfoldable pub plan_fetch : State → List ℕ → Planned

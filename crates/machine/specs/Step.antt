@@ -8,6 +8,7 @@ use Rattle.machine.specs.Enter.{Outcome, enter_of}
 use Rattle.machine.specs.Execute.{after_operation, event_of}
 use Rattle.machine.specs.Fault.{noted}
 use Rattle.machine.specs.Plan.{plan_of}
+use Rattle.plan.specs.Trap.{trap_number}
 use Rattle.plan.specs.declared.Plan.{Plan}
 use Rattle.plan.specs.declared.Plan.TheVariants.{Interrupt, Perform, Trap, Violation}
 use Rattle.machine.specs.declared.Planned.{Planned}
@@ -19,8 +20,8 @@ use Rattle.machine.specs.declared.Stepped.{Stepped}
 -- lost.
 unfoldable pub commit : Plan → State → List ℕ → Outcome
 commit (Interrupt line) st m = enter_of st (without st.pending line) line st.pc m
-commit (Violation fault a) st m = enter_of (noted fault a st) st.pending (fault_number fault) st.pc m
-commit (Trap number saved) st m = enter_of st st.pending number saved m
+commit (Violation v) st m = enter_of (noted v.fault v.address st) st.pending (fault_number v.fault) st.pc m
+commit (Trap trap saved) st m = enter_of st st.pending (trap_number trap) saved m
 commit (Perform op) st m = record { state = after_operation st op; memory = stored op.store m; event = event_of op }
 
 -- one step of a running machine

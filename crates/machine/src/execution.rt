@@ -11,6 +11,7 @@ use plan::Operation;
 use word::{minus, plus};
 
 // What an instruction did.
+#[tactic(auto, unfolding(crate::specs::Execute::event_of))]
 pub(crate) fn event_of(op: Operation) -> Event
     ensures { result ≡ def.event_of op }
 {
@@ -24,52 +25,31 @@ impl State {
     pub(crate) fn set_condition(self, condition: Condition) -> State
         ensures { result ≡ with_condition self condition }
     {
-        let regs = self.regs;
-        let flags = self.flags;
-        let ports = self.ports;
-        let fault = self.fault;
-        let tlb = self.tlb;
-        let timers = self.timers;
-        State {
-            regs,
-            ssp: self.ssp,
-            usp: self.usp,
-            pc: self.pc,
-            flags,
-            pending: self.pending,
-            ports,
-            mmu: self.mmu,
-            condition,
-            fault,
-            tlb,
-            timers,
-        }
+        State { condition, ..self }
     }
 
     // RETI: FLAG from a word, and SSP raised.
-    fn resume(mut self, w: u16) -> State
+    fn resume(self, w: u16) -> State
         ensures { result ≡ with_flag (with_stack self (words.plus self.ssp 4) self.usp) w }
     {
-        self.ssp = plus(self.ssp, 4);
-        self.load_flag(w)
+        let ssp = plus(self.ssp, 4);
+        State { ssp, ..self }.load_flag(w)
     }
 
     // The state after an instruction but for PC.
+    #[tactic(auto, unfolding(crate::specs::Execute::body_of))]
     fn body(self, op: Operation) -> State
         ensures { result ≡ def.body_of self op }
     {
-        let code = op.code;
-        match code {
-            LD => self.set_register(op.rd, op.source),
+        match op.code {
+            LD | LDFLAG => self.set_register(op.rd, op.source),
             CMP => self.set_flags(alu::sub(op.held, op.source)),
-            LDFLAG => self.set_register(op.rd, op.source),
-            CALL => self.set_sp(minus(self.sp(), 2)),
             IN => {
                 let value = self.port_value(op.port);
                 self.port_in(op.port).set_register(op.rd, value)
             }
             OUT => self.port_out(op.port, op.held),
-            PUSH => self.set_sp(minus(self.sp(), 2)),
+            CALL | PUSH => self.set_sp(minus(self.sp(), 2)),
             POP => self
                 .set_sp(plus(self.sp(), 2))
                 .set_register(op.rd, op.source),
@@ -77,7 +57,7 @@ impl State {
             RETI => self.resume(op.source),
             HALT => self.set_condition(Condition::Halted),
             ADD..=SHRL => {
-                let r = plan::result(code, op.held, op.source);
+                let r = plan::result(op.code, op.held, op.source);
                 self.set_flags(r).set_register(op.rd, r.value)
             }
             _ => self,
@@ -85,6 +65,7 @@ impl State {
     }
 
     // The state after an instruction.
+    #[tactic(auto, unfolding(crate::specs::Execute::after_operation))]
     pub(crate) fn perform(self, op: Operation) -> State
         ensures { result ≡ def.after_operation self op }
     {

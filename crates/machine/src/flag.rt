@@ -9,21 +9,18 @@ use status::Flags;
 
 impl State {
     // FLAG loaded from a word.
-    pub fn load_flag(mut self, w: u16) -> State
+    pub fn load_flag(self, w: u16) -> State
         ensures { result ≡ with_flag self w }
     {
         let flags = Flags::from_word(w);
-        self.flags = flags;
-        self
+        State { flags, ..self }
     }
 
     // V, C, S and Z of a result.
-    pub fn set_flags(mut self, r: Alu) -> State
+    pub fn set_flags(self, r: Alu) -> State
         ensures { result ≡ with_result self r }
     {
-        let old = self.flags;
-        let flags = old.with_result(r);
-        self.flags = flags;
-        self
+        let flags = self.flags.with_result(r);
+        State { flags, ..self }
     }
 }

@@ -19,7 +19,7 @@ use status::Flags;
 use timer::Timers;
 
 // The condition of a machine.
-#[derive(Clone, Copy)]
+#[derive(Clone, Copy, PartialEq, Eq)]
 pub enum Condition {
     Running,
     Halted,

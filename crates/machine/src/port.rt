@@ -2,7 +2,7 @@
 ghost use Rattle.std.specs.Prelude.{◌≡◌, ◌≤◌};
 ghost use Rattle.machine.specs.Ports as def;
 
-use crate::{Ports, State};
+use crate::State;
 
 // The input and the output byte.
 const IO: u16 = 0x18;
@@ -22,9 +22,10 @@ fn entry_shown(port: u16, entry: u32) -> u16
     ensures { result ≡ def.entry_shown port entry }
 {
     if port % 4 == 0 {
-        return (entry / 65536) as u16;
+        (entry / 65536) as u16
+    } else {
+        (entry % 65536) as u16
     }
-    (entry % 65536) as u16
 }
 
 // An entry after a write to its port.
@@ -32,11 +33,13 @@ fn entry_written(port: u16, entry: u32, v: u16) -> u32
     ensures { result ≡ def.entry_written port entry v }
 {
     if port % 4 == 0 {
-        return (v % 256) as u32 * 65536 + entry % 65536;
+        u32::from(v % 256) * 65536 + entry % 65536
+    } else {
+        entry / 65536 * 65536 + u32::from(v / 32768 * 32768 + v % 8192)
     }
-    entry / 65536 * 65536 + (v / 32768 * 32768 + v % 8192) as u32
 }
 
+#[tactic(auto, unfolding(crate::specs::Ports::tlb_port))]
 fn read_entry(tlb: [u32; 8], port: u16) -> u16
     requires { (def.first_tlb_port ≤ port) × (port ≤ def.last_tlb_port) }
     ensures { result ≡ def.tlb_port tlb port }
@@ -48,35 +51,30 @@ fn read_entry(tlb: [u32; 8], port: u16) -> u16
     0
 }
 
+#[tactic(auto, unfolding(crate::specs::Ports::tlb_after))]
 fn write_entry(mut tlb: [u32; 8], port: u16, v: u16) -> [u32; 8]
     requires { (def.first_tlb_port ≤ port) × (port ≤ def.last_tlb_port) }
     ensures { result ≡ def.tlb_after tlb port v }
 {
     if port % 2 == 0 {
         let k = ((port - FIRST_TLB) / 4) as usize;
-        let entry = tlb[k];
-        tlb[k] = entry_written(port, entry, v);
+        tlb[k] = entry_written(port, tlb[k], v);
     }
     tlb
 }
 
 impl State {
     // What IN gives where the port is no timer's.
+    #[tactic(auto, unfolding(crate::specs::Ports::port_elsewhere, crate::specs::Ports::tlb_port))]
     fn port_elsewhere(self, port: u16) -> u16
         ensures { result ≡ def.port_elsewhere self.ports.input self.fault self.tlb port }
     {
         match port {
-            IO => self.ports.input as u16,
+            IO => u16::from(self.ports.input),
             MMU => self.fault.violation,
-            CAUSE => {
-                let readout = self.fault.consume();
-                readout.given.cause as u16
-            }
-            MISSED => self.fault.missed as u16,
-            FIRST_TLB..=LAST_TLB => {
-                let tlb = self.tlb;
-                read_entry(tlb, port)
-            }
+            CAUSE => u16::from(self.fault.consume().given.cause),
+            MISSED => u16::from(self.fault.missed),
+            FIRST_TLB..=LAST_TLB => read_entry(self.tlb, port),
             _ => 0,
         }
     }
@@ -85,56 +83,38 @@ impl State {
     pub(crate) fn port_value(self, port: u16) -> u16
         ensures { result ≡ def.port_value self port }
     {
-        let timers = self.timers;
-        let elsewhere = self.port_elsewhere(port);
-        timers.port_value(elsewhere, port)
+        self.timers.port_value(self.port_elsewhere(port), port)
     }
 
     // The state after IN.
-    pub(crate) fn port_in(mut self, port: u16) -> State
+    #[tactic(auto, unfolding(crate::specs::Ports::record_after_in))]
+    pub(crate) fn port_in(self, port: u16) -> State
         ensures { result ≡ def.after_in self port }
     {
-        let timers = self.timers;
-        let read = timers.port_in(port);
-        self.timers = read;
-        if port == CAUSE {
-            let old = self.fault;
-            let readout = old.consume();
-            let left = readout.left;
-            self.fault = left;
-            return self;
+        let fault = if port == CAUSE {
+            self.fault.consume().left
+        } else {
+            self.fault
+        };
+        State {
+            fault,
+            timers: self.timers.port_in(port),
+            ..self
         }
-        self
     }
 
     // The state after OUT.
+    #[tactic(auto, unfolding(crate::specs::Ports::output_after, crate::specs::Ports::mmu_after, crate::specs::Ports::tlb_after))]
     pub(crate) fn port_out(mut self, port: u16, v: u16) -> State
         ensures { result ≡ def.after_out self port v }
     {
-        let timers = self.timers;
-        let written = timers.port_out(port, v);
-        self.timers = written;
+        self.timers = self.timers.port_out(port, v);
         match port {
-            IO => {
-                let old = self.ports;
-                let ports = Ports {
-                    input: old.input,
-                    output: (v % 256) as u8,
-                };
-                self.ports = ports;
-                self
-            }
-            MMU => {
-                self.mmu = v % 2 == 1;
-                self
-            }
-            FIRST_TLB..=LAST_TLB => {
-                let old = self.tlb;
-                let tlb = write_entry(old, port, v);
-                self.tlb = tlb;
-                self
-            }
-            _ => self,
+            IO => self.ports.output = (v % 256) as u8,
+            MMU => self.mmu = v % 2 == 1,
+            FIRST_TLB..=LAST_TLB => self.tlb = write_entry(self.tlb, port, v),
+            _ => {}
         }
+        self
     }
 }

@@ -4,28 +4,27 @@ ghost use Rattle.machine.specs.Fault as def;
 ghost use Rattle.machine.specs.Look.{look_of};
 
 use crate::{Looked, State};
-use mmu::Fault;
+use fault::Readout;
+use mmu::Violation;
 
 impl State {
     // The violation address and cause, or the missed page, of an access that was not granted.
-    pub(crate) fn note(mut self, fault: Fault, a: u16) -> State
-        ensures { result ≡ def.noted fault a self }
+    pub(crate) fn note(self, violation: Violation) -> State
+        ensures { result ≡ def.noted violation.fault violation.address self }
     {
-        let old = self.fault;
-        let record = old.noted(fault, a);
-        self.fault = record;
-        self
+        let fault = self.fault.noted(violation);
+        State { fault, ..self }
     }
 
     // The record, and the state as it is.
-    pub fn look(mut self) -> Looked
+    pub fn look(self) -> Looked
         ensures { result ≡ look_of self }
     {
-        let old = self.fault;
-        let readout = old.look();
-        let given = readout.given;
-        let left = readout.left;
-        self.fault = left;
-        Looked { given, state: self }
+        let Readout { given, left } = self.fault.look();
+        let state = State {
+            fault: left,
+            ..self
+        };
+        Looked { given, state }
     }
 }

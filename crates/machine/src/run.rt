@@ -1,11 +1,10 @@
 // A run.
-ghost use Rattle.std.specs.Prelude.{◌≡◌, length};
-ghost use Rattle.decode.specs.Entry.{table_of};
+ghost use Rattle.std.specs.Prelude.{◌≡◌};
 ghost use Rattle.machine.specs.Answers.{states_of};
 ghost use Rattle.machine.specs.Run as def;
 
 use crate::{Condition, Ending, Event, Finished, State};
-use decode::Table;
+use memory::Memory;
 
 // The states of a step.
 pub fn states_of(event: Event) -> u16
@@ -16,6 +15,19 @@ pub fn states_of(event: Event) -> u16
         Event::Entered(_, _, _) => 12,
         Event::Halted => 5,
         Event::Lost => 0,
+    }
+}
+
+// How a run ends that does no step more.
+impl From<Condition> for Ending {
+    ghost from_gives = { λ condition ending. ending ≡ def.stopped_ending condition };
+
+    fn from(condition: Condition) -> Ending {
+        match condition {
+            Condition::Running => Ending::Spent,
+            Condition::Halted => Ending::Halted,
+            Condition::Lost => Ending::Lost,
+        }
     }
 }
 
@@ -32,38 +44,24 @@ impl State {
         }
     }
 
-    // A run of at most `allowance` steps, with the decoding table lent.
-    pub fn run(self, mem: &mut [u8], allowance: u16, table: &Table) -> Finished
-        requires { (length mem.old ≡ 65536) × (table.now ≡ table_of) }
+    // A run of at most `allowance` steps: the plain loop, to be read. `runner::run` has the same equation, and is fast.
+    pub fn run(self, mem: &mut Memory, allowance: u16) -> Finished
         ensures answer { result ≡ def.finished (def.run_of allowance self mem.old) }
         ensures memory { mem.new ≡ (def.run_of allowance self mem.old).memory }
     {
         let mut state = self;
-        let mut steps: u16 = 0;
-        let mut states: u32 = 0;
-        loop {
-            let condition = state.condition;
-            match condition {
-                Condition::Halted => return state.finish(steps, states, Ending::Halted),
-                Condition::Lost => return state.finish(steps, states, Ending::Lost),
-                Condition::Running => {}
+        let mut states = 0;
+        for steps in 0..allowance {
+            if state.condition != Condition::Running {
+                return state.finish(steps, states, state.condition.into());
             }
-            if steps == allowance {
-                return state.finish(steps, states, Ending::Spent);
-            }
-            let stepped = state.step(mem, table);
-            let event = stepped.event;
-            steps += 1;
-            states += states_of(event) as u32;
+            let stepped = state.step(mem);
             state = stepped.state;
-            match event {
-                Event::Entered(number, pc, flag) => {
-                    return state.finish(steps, states, Ending::Entered(number, pc, flag));
-                }
-                Event::Executed(_) => {}
-                Event::Halted => {}
-                Event::Lost => {}
+            states += u32::from(states_of(stepped.event));
+            if let Event::Entered(number, pc, flag) = stepped.event {
+                return state.finish(steps + 1, states, Ending::Entered(number, pc, flag));
             }
         }
+        state.finish(allowance, states, state.condition.into())
     }
 }

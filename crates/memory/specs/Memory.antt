@@ -1,11 +1,10 @@
 -- Memory: a list of bytes, by physical address. Document 01: "The even byte of a word is its upper half."
 -- Assumes nothing.
-use Rattle.std.specs.Prelude.{List, ℕ, get_or, set}
+use Rattle.std.specs.Prelude.{List, Option, None, Some, ℕ, get_or, set}
 use Rattle.word.specs.Word.{halves, lower, plus, upper}
 use Rattle.word.specs.declared.Width.{Width}
 use Rattle.word.specs.declared.Width.TheVariants.{Byte, Word}
 use Rattle.memory.specs.declared.Store.{Store}
-use Rattle.memory.specs.declared.Store.TheVariants.{At, Nothing}
 
 -- "A byte read is extended by zeros"
 abbrev pub byte_at : List ℕ → ℕ → ℕ
@@ -30,6 +29,6 @@ write_at Byte = store_byte
 write_at Word = store_word
 
 -- memory after an instruction's store
-unfoldable pub stored : Store → List ℕ → List ℕ
-stored Nothing m = m
-stored (At width a v) m = write_at width m a v
+unfoldable pub stored : Option Store → List ℕ → List ℕ
+stored None m = m
+stored (Some s) m = write_at s.width m s.address s.value

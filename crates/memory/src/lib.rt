@@ -1,35 +1,36 @@
 // Memory, by physical address.
 #![tactic(auto)]
 
-ghost use Rattle.std.specs.Prelude.{◌≡◌, length};
+ghost use Rattle.std.specs.Prelude.{◌≡◌};
 ghost use Rattle.memory.specs.Memory as def;
 
 use word::Width;
 
-// What an instruction stores: nothing, or a value of a width at a physical address.
+// 64 KiB, by physical address.
+pub type Memory = [u8; 65536];
+
+// What an instruction stores: a value of a width at a physical address.
 #[derive(Clone, Copy)]
-pub enum Store {
-    Nothing,
-    At(Width, u16, u16),
+pub struct Store {
+    pub width: Width,
+    pub address: u16,
+    pub value: u16,
 }
 
-fn byte_at(mem: &[u8], a: u16) -> u16
-    requires { length mem.now ≡ 65536 }
+fn byte_at(mem: &Memory, a: u16) -> u16
     ensures { result ≡ def.byte_at mem.now a }
 {
-    mem[a as usize] as u16
+    u16::from(mem[a as usize])
 }
 
-pub fn word_at(mem: &[u8], a: u16) -> u16
-    requires { length mem.now ≡ 65536 }
+pub fn word_at(mem: &Memory, a: u16) -> u16
     ensures { result ≡ def.word_at mem.now a }
 {
-    byte_at(mem, a) * 256 + byte_at(mem, word::plus(a, 1))
+    u16::from_be_bytes([mem[a as usize], mem[word::plus(a, 1) as usize]])
 }
 
 // A byte or a word.
-pub fn read(mem: &[u8], width: Width, a: u16) -> u16
-    requires { length mem.now ≡ 65536 }
+pub fn read(mem: &Memory, width: Width, a: u16) -> u16
     ensures { result ≡ def.read_at width mem.now a }
 {
     match width {
@@ -38,23 +39,21 @@ pub fn read(mem: &[u8], width: Width, a: u16) -> u16
     }
 }
 
-fn store_byte(mem: &mut [u8], a: u16, v: u16)
-    requires { length mem.old ≡ 65536 }
+fn store_byte(mem: &mut Memory, a: u16, v: u16)
     ensures { mem.new ≡ def.store_byte mem.old a v }
 {
     mem[a as usize] = (v % 256) as u8;
 }
 
-pub fn store_word(mem: &mut [u8], a: u16, v: u16)
-    requires { length mem.old ≡ 65536 }
+pub fn store_word(mem: &mut Memory, a: u16, v: u16)
     ensures { mem.new ≡ def.store_word mem.old a v }
 {
-    mem[a as usize] = (v / 256) as u8;
-    mem[word::plus(a, 1) as usize] = (v % 256) as u8;
+    let [upper, lower] = v.to_be_bytes();
+    mem[a as usize] = upper;
+    mem[word::plus(a, 1) as usize] = lower;
 }
 
-fn write(mem: &mut [u8], width: Width, a: u16, v: u16)
-    requires { length mem.old ≡ 65536 }
+fn write(mem: &mut Memory, width: Width, a: u16, v: u16)
     ensures { mem.new ≡ def.write_at width mem.old a v }
 {
     match width {
@@ -63,13 +62,12 @@ fn write(mem: &mut [u8], width: Width, a: u16, v: u16)
     }
 }
 
-// An instruction's store.
-pub fn make_store(mem: &mut [u8], store: Store)
-    requires { length mem.old ≡ 65536 }
+// An instruction's store, if it has one.
+#[tactic(auto, unfolding(crate::specs::Memory::stored))]
+pub fn make_store(mem: &mut Memory, store: Option<Store>)
     ensures { mem.new ≡ def.stored store mem.old }
 {
-    match store {
-        Store::Nothing => {}
-        Store::At(width, a, v) => write(mem, width, a, v),
+    if let Some(store) = store {
+        write(mem, store.width, store.address, store.value);
     }
 }

@@ -1,6 +1,6 @@
 -- Accesses that are granted and leave the TLB as it is: one that is not translated, and one by an entry that has its marks.
 -- Assumes nothing.
-use Rattle.std.specs.Prelude.{Bool, false, true, List, ◌≡◌, ℕ, ◌%◌, get_or}
+use Rattle.std.specs.Prelude.{Bool, false, true, List, Some, ◌≡◌, ℕ, ◌%◌, get_or}
 use Rattle.std.proofs.Math.Path.{refl}
 use Rattle.std.proofs.Common.{arith, ne_eqb}
 use Rattle.std.proofs.lemmas.List.{set-get_or}
@@ -11,7 +11,6 @@ use Rattle.word.specs.declared.Width.TheVariants.{Byte, Word}
 use Rattle.mmu.specs.Access.{access_of, aligned_access, by_entry, by_tlb, granted}
 use Rattle.mmu.specs.Entry.{frame_in, gives, marked}
 use Rattle.mmu.specs.Lookup.{lookup_of}
-use Rattle.mmu.specs.declared.Lookup.TheVariants.{Entry}
 use Rattle.mmu.specs.declared.Right.{Right}
 
 module _ (tlb : List ℕ) (right : Right) (a : ℕ) where
@@ -24,7 +23,7 @@ module _ (tlb : List ℕ) (right : Right) (a : ℕ) where
   translated = refl
 
   pub served_marked :
-      (k : ℕ) → lookup_of tlb (upper a) ≡ Entry k → gives right (get_or tlb k 0) ≡ true
+      (k : ℕ) → lookup_of tlb (upper a) ≡ Some k → gives right (get_or tlb k 0) ≡ true
       → marked right (get_or tlb k 0) ≡ get_or tlb k 0 → by_tlb tlb right a ≡ granted (halves (frame_in (get_or tlb k 0)) (lower a)) tlb
   unfolding by_tlb by_entry
   served_marked k e g m = rw (e, g, m, set-get_or)

@@ -1,6 +1,6 @@
 -- The law of an access: it is one of its cases, and a word that is granted has an even address.
 -- Assumes nothing.
-use Rattle.std.specs.Prelude.{Bool, cond, List, ◌≡◌, ℕ, ◌%◌, eqb, get_or, set}
+use Rattle.std.specs.Prelude.{Bool, cond, List, Option, None, Some, Ok, ◌≡◌, ℕ, ◌%◌, eqb, get_or, set}
 use Rattle.std.proofs.Math.Bool.{false, true}
 use Rattle.std.proofs.Math.Path.{refl}
 use Rattle.std.proofs.Common.{arith}
@@ -13,10 +13,7 @@ use Rattle.mmu.specs.Access.{access_of, aligned_access, by_entry, by_lookup, by_
 use Rattle.mmu.specs.Entry.{frame_in, gives, marked}
 use Rattle.mmu.specs.Found.{Found, found}
 use Rattle.mmu.specs.Lookup.{lookup_of}
-use Rattle.mmu.specs.declared.Access.TheVariants.{At}
 use Rattle.mmu.specs.declared.Fault.TheVariants as fault
-use Rattle.mmu.specs.declared.Lookup.{Lookup}
-use Rattle.mmu.specs.declared.Lookup.TheVariants as lookup
 use Rattle.mmu.specs.declared.Right.{Right}
 use Rattle.mmu.specs.Laws.{AccessCases, direct, served, fails}
 
@@ -32,9 +29,9 @@ module _ (tlb : List ℕ) (right : Right) (a : ℕ) where
       by true g = served k refl f.below f.held g refl
       by false g = fails fault.Refused refl
 
-  lookup_cases : (l : Lookup) → lookup_of tlb (upper a) ≡ l → AccessCases true tlb right a (by_lookup l tlb right a)
-  lookup_cases lookup.Missing e = fails fault.Missing refl
-  lookup_cases (lookup.Entry k) e = entry_cases k (found tlb (upper a) k e)
+  lookup_cases : (l : Option ℕ) → lookup_of tlb (upper a) ≡ l → AccessCases true tlb right a (by_lookup l tlb right a)
+  lookup_cases None e = fails fault.Missing refl
+  lookup_cases (Some k) e = entry_cases k (found tlb (upper a) k e)
 
 aligned_cases : (on : Bool) (tlb : List ℕ) (right : Right) (a : ℕ) → AccessCases on tlb right a (aligned_access on tlb right a)
 unfolding aligned_access by_tlb
@@ -48,12 +45,12 @@ access_cases Word on tlb right a =
     either (AccessCases on tlb right a) (eqb (a % 2) 1) (λ _. fails fault.Odd refl) (λ _. aligned_cases on tlb right a)
 
 -- a word that is granted has an even address
-pub word_even : (on : Bool) (tlb : List ℕ) (right : Right) (a p : ℕ) → (access_of Word on tlb right a).access ≡ At p → a % 2 ≡ 0
+pub word_even : (on : Bool) (tlb : List ℕ) (right : Right) (a p : ℕ) → (access_of Word on tlb right a).access ≡ Ok p → a % 2 ≡ 0
 unfolding access_of
 word_even on tlb right a p = by (eqb (a % 2) 1) refl
   where
     by :
-        (t : Bool) → eqb (a % 2) 1 ≡ t → (cond t (failed fault.Odd tlb) (aligned_access on tlb right a)).access ≡ At p
+        (t : Bool) → eqb (a % 2) 1 ≡ t → (cond t (failed fault.Odd tlb) (aligned_access on tlb right a)).access ≡ Ok p
         → a % 2 ≡ 0
     by true o e = let z : ◌≡◌ {A = ℕ} 0 1 = cc in absurd (omega arith)
     by false o e = omega (arith, eqb-false (a % 2) 1 o)

@@ -1,3 +1,4 @@
 pub mod Grants
 pub mod Laws
-pub mod Turns
+pub mod Masks
+pub mod Positions

@@ -1,25 +1,27 @@
 -- An access. Document 01, "MMU" and "Faults in order": "Each access is tested for an odd word address (11, cause bit 1, in any mode), then no
 -- entry (10), then right (11, cause bit 0)."
 -- Assumes nothing.
-use Rattle.std.specs.Prelude.{Bool, cond, List, ℕ, ◌%◌, eqb, get_or, set}
+use Rattle.std.specs.Prelude.{Bool, cond, List, Option, None, Some, Ok, Err, ℕ, ◌%◌, eqb, get_or, set}
 use Rattle.word.specs.Word.{halves, lower, upper}
 use Rattle.word.specs.declared.Width.{Width}
 use Rattle.word.specs.declared.Width.TheVariants.{Byte, Word}
 use Rattle.mmu.specs.Entry.{frame_in, gives, marked}
 use Rattle.mmu.specs.Lookup.{lookup_of}
-use Rattle.mmu.specs.declared.Access.TheVariants.{At, Fails}
 use Rattle.mmu.specs.declared.Accessed.{Accessed}
 use Rattle.mmu.specs.declared.Fault.{Fault}
 use Rattle.mmu.specs.declared.Fault.TheVariants as fault
-use Rattle.mmu.specs.declared.Lookup.{Lookup}
-use Rattle.mmu.specs.declared.Lookup.TheVariants as lookup
 use Rattle.mmu.specs.declared.Right.{Right}
+use Rattle.mmu.specs.declared.Violation.{Violation}
 
 abbrev pub granted : ℕ → List ℕ → Accessed
-granted a tlb = record { access = At a; tlb = tlb }
+granted a tlb = record { access = Ok a; tlb = tlb }
 
 abbrev pub failed : Fault → List ℕ → Accessed
-failed why tlb = record { access = Fails why; tlb = tlb }
+failed why tlb = record { access = Err why; tlb = tlb }
+
+-- not granted, at the logical address `a`
+abbrev pub violation : Fault → ℕ → Violation
+violation why a = record { fault = why; address = a }
 
 -- "then right": the serving entry's own, of entry k
 unfoldable pub by_entry : List ℕ → ℕ → Right → ℕ → Accessed
@@ -29,9 +31,9 @@ by_entry tlb k right a =
     (failed fault.Refused tlb)
 
 -- "then no entry"
-abbrev pub by_lookup : Lookup → List ℕ → Right → ℕ → Accessed
-by_lookup lookup.Missing tlb right a = failed fault.Missing tlb
-by_lookup (lookup.Entry k) tlb right a = by_entry tlb k right a
+abbrev pub by_lookup : Option ℕ → List ℕ → Right → ℕ → Accessed
+by_lookup None tlb right a = failed fault.Missing tlb
+by_lookup (Some k) tlb right a = by_entry tlb k right a
 
 unfoldable pub by_tlb : List ℕ → Right → ℕ → Accessed
 by_tlb tlb right a = by_lookup (lookup_of tlb (upper a)) tlb right a

@@ -28,3 +28,9 @@ abbrev pub marked : Right → ℕ → ℕ
 marked Read entry = with_bit 12 entry
 marked Execute entry = with_bit 12 entry
 marked Write entry = with_bit 11 (with_bit 12 entry)
+
+-- the marks of a granted access, by their bits
+abbrev pub marks : Right → ℕ
+marks Read = 2 ^ 12
+marks Execute = 2 ^ 12
+marks Write = 2 ^ 12 + 2 ^ 11

@@ -1,6 +1,6 @@
 -- The law of an access: its cases, and what follows for every access from them.
 -- Assumes nothing.
-use Rattle.std.specs.Prelude.{Bool, List, ◌≡◌, ℕ, ◌<◌, get_or, length, set}
+use Rattle.std.specs.Prelude.{Bool, List, Ok, ◌≡◌, ℕ, ◌<◌, get_or, length, set}
 use Rattle.std.proofs.Math.Bool.{false, true}
 use Rattle.std.proofs.Math.Path.{refl}
 use Rattle.std.proofs.Common.{◌∙◌, arith, length-set}
@@ -8,7 +8,6 @@ use Rattle.word.specs.Word.{halves, lower, upper}
 use Rattle.mmu.specs.Access.{failed, granted}
 use Rattle.mmu.specs.Entry.{frame_in, gives, marked}
 use Rattle.mmu.specs.Lookup.{has_page}
-use Rattle.mmu.specs.declared.Access.TheVariants.{At}
 use Rattle.mmu.specs.declared.Accessed.{Accessed}
 use Rattle.mmu.specs.declared.Fault.{Fault}
 use Rattle.mmu.specs.declared.Right.{Right}
@@ -38,12 +37,12 @@ module _ {on : Bool} {tlb : List ℕ} {right : Right} {a : ℕ} {x : Accessed} w
   length_kept w = access_keeps (λ t. length t ≡ length tlb) (λ t k r h. length-set t k (marked r (get_or t k 0)) ∙ h) w refl
 
   -- the address that is granted: within memory, and in its page where the access asked
-  pub granted_inside : {p : ℕ} → AccessCases on tlb right a x → a < 65536 → x.access ≡ At p → p < 65536
+  pub granted_inside : {p : ℕ} → AccessCases on tlb right a x → a < 65536 → x.access ≡ Ok p → p < 65536
   granted_inside {p} (direct off e) l q = let same : p ≡ a = cc in omega arith
   granted_inside {p} (served k o b v g e) l q = let same : p ≡ halves (frame_in (get_or tlb k 0)) (lower a) = cc in omega arith
   granted_inside (fails why e) l q = let z : ◌≡◌ {A = ℕ} 0 1 = cc in absurd (omega arith)
 
-  pub granted_lower : {p : ℕ} → AccessCases on tlb right a x → x.access ≡ At p → lower p ≡ lower a
+  pub granted_lower : {p : ℕ} → AccessCases on tlb right a x → x.access ≡ Ok p → lower p ≡ lower a
   granted_lower {p} (direct off e) q = let same : p ≡ a = cc in omega arith
   granted_lower {p} (served k o b v g e) q = let same : p ≡ halves (frame_in (get_or tlb k 0)) (lower a) = cc in omega arith
   granted_lower (fails why e) q = let z : ◌≡◌ {A = ℕ} 0 1 = cc in absurd (omega arith)

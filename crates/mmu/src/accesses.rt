@@ -1,74 +1,40 @@
 // An access: translated or not, granted or not.
-ghost use Rattle.std.specs.Prelude.{◌≡◌, ◌<◌};
+ghost use Rattle.std.specs.Prelude.{◌≡◌};
 ghost use Rattle.mmu.specs.Access as def;
 
 use crate::entry::{gives, marked};
 use crate::lookups::look_up;
-use crate::{Access, Accessed, Fault, Lookup, Right};
+use crate::{Accessed, Fault, Right};
 use word::Width;
 
-fn granted(a: u16, tlb: [u32; 8]) -> Accessed
-    ensures { result ≡ def.granted a tlb }
+// The physical address by the entry that serves, which gets its marks.
+#[tactic(auto, using(crate::proofs::Positions::served_below, crate::proofs::Positions::lookup_position), unfolding(crate::specs::Access::by_tlb, crate::specs::Access::by_entry))]
+fn translate(tlb: &mut [u32; 8], right: Right, a: u16) -> Result<u16, Fault>
+    ensures access { result ≡ (def.by_tlb tlb.old right a).access }
+    ensures marks { tlb.new ≡ (def.by_tlb tlb.old right a).tlb }
 {
-    Accessed {
-        access: Access::At(a),
-        tlb,
-    }
-}
-
-fn failed(fault: Fault, tlb: [u32; 8]) -> Accessed
-    ensures { result ≡ def.failed fault tlb }
-{
-    Accessed {
-        access: Access::Fails(fault),
-        tlb,
-    }
-}
-
-// An access by the entry that serves.
-fn by_entry(mut tlb: [u32; 8], k: usize, right: Right, a: u16) -> Accessed
-    requires { k < 8 }
-    ensures { result ≡ def.by_entry tlb k right a }
-{
+    let Some(k) = look_up(*tlb, a / 256) else {
+        return Err(Fault::Missing);
+    };
     let entry = tlb[k];
-    if gives(right, entry) {
-        tlb[k] = marked(right, entry);
-        return granted((entry % 256) as u16 * 256 + a % 256, tlb);
+    if !gives(right, entry) {
+        return Err(Fault::Refused);
     }
-    failed(Fault::Refused, tlb)
+    tlb[k] = marked(right, entry);
+    Ok((entry % 256) as u16 * 256 + a % 256)
 }
 
-// An access by the TLB.
-fn translate(tlb: [u32; 8], right: Right, a: u16) -> Accessed
-    ensures { result ≡ def.by_tlb tlb right a }
-{
-    match look_up(tlb, a / 256) {
-        Lookup::Missing => failed(Fault::Missing, tlb),
-        Lookup::Entry(k) => by_entry(tlb, k, right, a),
-    }
-}
-
-// An access to a byte, or to a word at an even address.
-fn aligned(on: bool, tlb: [u32; 8], right: Right, a: u16) -> Accessed
-    ensures { result ≡ def.aligned_access on tlb right a }
-{
-    if on {
-        return translate(tlb, right, a);
-    }
-    granted(a, tlb)
-}
-
-// An access. `on` says whether the MMU translates.
-pub fn try_access(width: Width, on: bool, tlb: [u32; 8], right: Right, a: u16) -> Accessed
+// An access. `on` says whether the MMU translates: the state tells it each time, and the TLB alone goes in and comes out.
+#[tactic(auto, unfolding(crate::specs::Access::access_of, crate::specs::Access::aligned_access))]
+pub fn try_access(width: Width, on: bool, mut tlb: [u32; 8], right: Right, a: u16) -> Accessed
     ensures { result ≡ def.access_of width on tlb right a }
 {
-    match width {
-        Width::Byte => aligned(on, tlb, right, a),
-        Width::Word => {
-            if a % 2 == 1 {
-                return failed(Fault::Odd, tlb);
-            }
-            aligned(on, tlb, right, a)
-        }
-    }
+    let access = if matches!(width, Width::Word) && a % 2 == 1 {
+        Err(Fault::Odd)
+    } else if on {
+        translate(&mut tlb, right, a)
+    } else {
+        Ok(a)
+    };
+    Accessed { access, tlb }
 }

@@ -1,21 +1,12 @@
 // The lookup of a page.
-ghost use Rattle.std.specs.Prelude.{◌≡◌};
+ghost use Rattle.std.specs.Prelude.{◌≡◌, position};
 ghost use Rattle.mmu.specs.Lookup as def;
 
-use crate::Lookup;
-use crate::bits::VALID;
+use crate::entry::has_page;
 
-// The lowest-numbered valid entry with the page.
-pub fn look_up(tlb: [u32; 8], page: u16) -> Lookup
-    ensures { result ≡ def.lookup_of tlb page }
+// The number of the lowest-numbered valid entry with the page.
+pub fn look_up(tlb: [u32; 8], page: u16) -> Option<usize>
+    ensures { result ≡ position (λ e. def.has_page page e) tlb }
 {
-    let wanted = page as u32 * 2 + 1;
-    let mut k = 0;
-    while k < 8 {
-        if tlb[k] / VALID == wanted {
-            return Lookup::Entry(k);
-        }
-        k += 1;
-    }
-    Lookup::Missing
+    tlb.iter().position(|entry| has_page(page, *entry))
 }

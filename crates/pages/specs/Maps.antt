@@ -1,7 +1,7 @@
 -- A map of 256 pages. A number for each: the frame in its upper half, and a bit for each right, set only where an access is granted and leaves
 -- the TLB as it is.
 -- Assumes nothing.
-use Rattle.std.specs.Prelude.{Bool, cond, false, true, List, refl, ◌≡◌, eqb, get_or, length, set}
+use Rattle.std.specs.Prelude.{Bool, cond, false, true, List, Option, None, Some, refl, ◌≡◌, eqb, get_or, length, set}
 use Rattle.std.proofs.Math.Bool.{and-false}
 use Rattle.std.proofs.lemmas.Bool.{false≢true, eqb-false}
 use Rattle.std.proofs.Common.{ap, sym, ◌∙◌, eqb-true, ne_eqb, get_or-set_other, get_or-set_same}
@@ -13,8 +13,6 @@ use Rattle.mmu.specs.Entry.{frame_in, page_in, valid}
 use Rattle.mmu.proofs.Grants.{aligned_access_lem, plain_granted, served_marked, translated}
 use Rattle.mmu.specs.Lookup.{has_page, lookup_from, lookup_of}
 use Rattle.mmu.specs.Marks.{usable_marked, usable_in}
-use Rattle.mmu.specs.declared.Lookup.{Lookup}
-use Rattle.mmu.specs.declared.Lookup.TheVariants.{Entry, Missing}
 use Rattle.mmu.specs.declared.Right.{Right}
 use Rattle.mmu.specs.declared.Right.TheVariants.{Execute, Read, Write}
 use Rattle.word.specs.Width.{bytes_of}
@@ -103,9 +101,9 @@ unfolding shown_of
 shown_frame e = omega (arith, bit_below (usable_in Read e), bit_below (usable_in Write e), bit_below (usable_in Execute e))
 
 -- what it shows of a page
-abbrev pub shown_at : List ℕ → Lookup → ℕ
-shown_at tlb Missing = 0
-shown_at tlb (Entry k) = shown_of (get_or tlb k 0)
+abbrev pub shown_at : List ℕ → Option ℕ → ℕ
+shown_at tlb None = 0
+shown_at tlb (Some k) = shown_of (get_or tlb k 0)
 
 module _ (tlb : List ℕ) where
   -- the entries from k on are in the map
@@ -118,7 +116,7 @@ module _ (tlb : List ℕ) where
 
   -- entry k is before the others: it is valid and its page is one of the map, or it is not in the map
   module _ (k : ℕ) (less : k < 8) (map : List ℕ) (rest : ShowsFrom (k + 1) map) where
-    left : (p : ℕ) → lookup_from tlb p (8 - k) k ≡ cond (has_page p (get_or tlb k 0)) (Entry k) (lookup_from tlb p (8 - (k + 1)) (k + 1))
+    left : (p : ℕ) → lookup_from tlb p (8 - k) k ≡ cond (has_page p (get_or tlb k 0)) (Some k) (lookup_from tlb p (8 - (k + 1)) (k + 1))
     unfolding lookup_from
     left p = let e : 8 - k ≡ suc (8 - (k + 1)) = omega arith in rw e
 
@@ -147,12 +145,12 @@ pub tlb_mapped : {on : Bool} (tlb map : List ℕ) → on ≡ true → ShowsFrom 
 unfolding lookup_of
 tlb_mapped tlb map is-on shows = rw is-on (record { grants = λ right a below set. by right a below set (lookup_of tlb (upper a)) refl })
   where
-    by : (right : Right) (a : ℕ) → a < 65536 → is_set (map_bit right) (get_or map (upper a) 0) ≡ true → (x : Lookup) → lookup_of tlb (upper a) ≡ x
+    by : (right : Right) (a : ℕ) → a < 65536 → is_set (map_bit right) (get_or map (upper a) 0) ≡ true → (x : Option ℕ) → lookup_of tlb (upper a) ≡ x
         → aligned_access true tlb right a ≡ granted (place_in map a) tlb
-    by right a below set Missing e =
+    by right a below set None e =
         let s : get_or map (upper a) 0 ≡ 0 = shows (upper a) (omega arith) ∙ ap (shown_at tlb) e in
         absurd (false≢true (sym (no_bit right) ∙ (rw s at set)))
-    by right a below set (Entry k) e =
+    by right a below set (Some k) e =
         let s : get_or map (upper a) 0 ≡ shown_of (get_or tlb k 0) = shows (upper a) (omega arith) ∙ ap (shown_at tlb) e in
         let u = usable_marked right (get_or tlb k 0) (sym (shown_bit right (get_or tlb k 0)) ∙ (rw s at set)) in
         rw (s, shown_frame) (translated tlb right a ∙ served_marked tlb right a k e u.0 u.1)

@@ -6,11 +6,11 @@ mod kept;
 mod map;
 
 pub use access::{fetch, read, word_at, write};
-pub use kept::{MAPS, kept_maps, renew};
+pub use kept::Maps;
 pub use map::{page_map, place};
 
-// No word: beyond every word.
+// No word: beyond every word. With `Option<u16>` the compiled loop no longer holds every instruction, and takes 60 % more machine instructions.
 pub const NONE: u32 = 65536;
 
-// No place: beyond every place.
+// No place: beyond every place. With `Option<usize>` the loop takes 4 % more.
 pub const NOWHERE: usize = 65536;

@@ -2,7 +2,7 @@
 -- addresses. `pair`: the premises of `isolated_calls` are met, so what it says holds of the two calls, for every allowance. `entered`: with an
 -- allowance of 9 they leave equal reports, the following address in G0, the table's word in G1, and the two handlers' addresses in PC.
 -- Assumes nothing.
-use Rattle.std.specs.Prelude.{Bool, false, true, ◌&&◌, List, [], ◌∷◌, ◌≡◌, refl, ℕ, suc, zero, ◌+◌, ◌<◌, ltb, get_or, length, replicate, set}
+use Rattle.std.specs.Prelude.{Bool, false, true, ◌&&◌, List, [], ◌∷◌, ◌≡◌, refl, ℕ, suc, zero, ◌+◌, ◌<◌, ltb, get_or, length, replicate, set, Ok}
 use Rattle.std.proofs.Common.{true≢false, ap, sym, ◌∙◌, arith, ltb-true, length-set, get_or-set_other}
 use Rattle.std.proofs.lemmas.List.{length-replicate}
 use Rattle.std.proofs.Math.Seq.{length-sets}
@@ -32,7 +32,6 @@ use Rattle.transfer.specs.Transfer.{transfer_of}
 use Rattle.mmu.specs.Access.{access_of, aligned_access, by_entry, by_tlb}
 use Rattle.mmu.specs.Lookup.{lookup_from, lookup_of}
 use Rattle.memory.specs.Memory.{stored}
-use Rattle.refusal.specs.declared.Validity.TheVariants.{Good}
 use Rattle.report.specs.Layout.{report_size}
 use Rattle.report.specs.Report.{report_of}
 use Rattle.roundtrip.specs.Each.{each_set}
@@ -142,7 +141,7 @@ given =
           };
     }
 
-tested : run_valid (length memory) image (length report) ≡ Good
+tested : run_valid (length memory) image (length report) ≡ Ok tt
 unfolding image report memory_valid image_valid good_image flag_good pending_good all_zeros zeros_good timer_good count_good control_good report_fits
 tested = ap (λ (n : ℕ). run_valid n image (length report)) memory_long_lem
 

@@ -7,19 +7,7 @@ use Rattle.alu.specs.Alu.{places}
 use Rattle.plan.specs.declared.Plan.{Plan}
 use Rattle.plan.specs.declared.Plan.TheVariants.{Perform, Trap}
 use Rattle.plan.specs.declared.Ready.{Ready}
-
--- "undefined (14), privilege (13)", "zero divisor (12)", "SVC is 15."
-abbrev pub zero_divisor : ℕ
-zero_divisor = 12
-
-abbrev pub not_permitted : ℕ
-not_permitted = 13
-
-abbrev pub undefined_word : ℕ
-undefined_word = 14
-
-abbrev pub service_call : ℕ
-service_call = 15
+use Rattle.plan.specs.declared.Trap.TheVariants as trap
 
 -- it goes ahead, with PC after it and its states
 abbrev pub performs : Ready → ℕ → ℕ → Plan
@@ -44,6 +32,6 @@ end_of flow.Jump x pc jumps = cond jumps (performs x x.address (x.cost + 1)) (pe
 end_of flow.Call x pc jumps = performs x x.address x.cost
 end_of flow.Return x pc jumps = performs x x.source x.cost
 end_of flow.Resume x pc jumps = performs x x.second x.cost
-end_of flow.Trap x pc jumps = Trap service_call x.following
-end_of flow.Divide x pc jumps = cond (eqb x.source 0) (Trap zero_divisor pc) (performs x x.following x.cost)
+end_of flow.Trap x pc jumps = Trap trap.ServiceCall x.following
+end_of flow.Divide x pc jumps = cond (eqb x.source 0) (Trap trap.ZeroDivisor pc) (performs x x.following x.cost)
 end_of flow.Shift x pc jumps = performs x x.following (x.cost + places x.source)

@@ -1,3 +1,3 @@
-pub mod Beside
 pub mod End
 pub mod Result
+pub mod Trap

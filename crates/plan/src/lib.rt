@@ -1,22 +1,34 @@
 // What a step is going to do: the last tests of an instruction, its result, the plan.
 #![tactic(auto)]
 
+ghost use Rattle.std.specs.Prelude.{◌≡◌};
+ghost use Rattle.plan.specs.Trap.{trap_number};
+
 mod results;
 mod tests;
 
 use memory::Store;
-use mmu::Fault;
+use mmu::Violation;
 pub use results::result;
 pub use tests::end;
 
-// The numbers of the entries that are no access's and no interrupt's.
-pub const ZERO_DIVISOR: u8 = 12;
+// Why an instruction enters the kernel, but for its accesses, by the number of the entry.
+#[derive(Clone, Copy)]
+pub enum Trap {
+    ZeroDivisor = 12,
+    NotPermitted,
+    Undefined,
+    ServiceCall,
+}
 
-pub const NOT_PERMITTED: u8 = 13;
+// The number that the kernel is entered with.
+impl From<Trap> for u8 {
+    ghost from_gives = { λ trap number. number ≡ trap_number trap };
 
-pub const UNDEFINED: u8 = 14;
-
-pub const SERVICE_CALL: u8 = 15;
+    fn from(trap: Trap) -> u8 {
+        trap as u8
+    }
+}
 
 // An instruction before its last tests.
 #[derive(Clone, Copy)]
@@ -35,7 +47,7 @@ pub struct Ready {
     pub source: u16,
     // The second word of two.
     pub second: u16,
-    pub store: Store,
+    pub store: Option<Store>,
 }
 
 // An instruction of which every test has passed.
@@ -52,7 +64,7 @@ pub struct Operation {
     // PC after the instruction.
     pub pc: u16,
     pub states: u16,
-    pub store: Store,
+    pub store: Option<Store>,
 }
 
 // What a step is going to do.
@@ -60,10 +72,10 @@ pub struct Operation {
 pub enum Plan {
     // Enter by the lowest pending line.
     Interrupt(u8),
-    // Enter because an access to a logical address is not granted.
-    Violation(Fault, u16),
-    // Enter with this number, the second being the PC to be saved.
-    Trap(u8, u16),
+    // Enter because an access is not granted.
+    Violation(Violation),
+    // Enter by a trap, with the PC to be saved.
+    Trap(Trap, u16),
     // Carry out an instruction.
     Perform(Operation),
 }

@@ -6,6 +6,7 @@ use alu::Alu;
 use decode::code::*;
 
 // The result and the flags of an instruction from ADD to SHRL but CMP.
+#[tactic(auto, unfolding(crate::specs::Result::alu_of))]
 pub fn result(code: u8, a: u16, b: u16) -> Alu
     ensures { result ≡ def.alu_of code a b }
 {

@@ -13,6 +13,7 @@ use Rattle.machine.specs.Step.{step_of}
 use Rattle.machine.specs.declared.Ending.TheVariants as ending
 use Rattle.machine.specs.declared.Event.TheVariants as event
 use Rattle.machine.specs.declared.State.{State}
+use Rattle.mmu.specs.Access.{violation}
 use Rattle.mmu.specs.Answers.{cause_bit, fault_number}
 use Rattle.mmu.specs.declared.Fault.{Fault}
 use Rattle.mmu.specs.declared.Fault.TheVariants.{Missing, Odd, Refused}
@@ -113,8 +114,8 @@ is_missing Refused e = absurd (omega arith)
 misses : Shown 10 Misses
 misses st m r saved flag g s =
     let x : ByAccess 10 (plan_of st m).plan = plan_access 10 (omega arith) (omega arith) st m g.lines s.plan in
-    let failed : (plan_of st m).plan ≡ Violation Missing x.address =
-    x.failed ∙ ap (λ (why : Fault). Violation why x.address) (is_missing x.why x.number_is)
+    let failed : (plan_of st m).plan ≡ Violation (violation Missing x.address) =
+    x.failed ∙ ap (λ (why : Fault). Violation (violation why x.address)) (is_missing x.why x.number_is)
     in
     rw (s.stored, failed) (record { address = x.address; failed = failed; missed = refl; violation = refl; cause = refl })
 

@@ -103,8 +103,8 @@ module _ (m : List ℕ) where
   commit_does : (x : Plan) (st : State) → Does x st.ssp st.condition (record_by x st.fault) (commit x st m)
   unfolding commit after_operation
   commit_does (Interrupt line) st = enter_does (Interrupt line) st _ _ _ refl
-  commit_does (Violation why a) st = enter_does (Violation why a) (noted why a st) _ _ _ refl
-  commit_does (Trap number saved) st = enter_does (Trap number saved) st _ _ _ refl
+  commit_does (Violation v) st = enter_does (Violation v) (noted v.fault v.address st) _ _ _ refl
+  commit_does (Trap why saved) st = enter_does (Trap why saved) st _ _ _ refl
   commit_does (Perform op) st =
       let st' : State = with_pc st op.pc in
       record { plan = body_plan st' op; condition = body_condition st' op; stored = body_fault st' op }

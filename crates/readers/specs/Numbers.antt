@@ -8,6 +8,7 @@ use Rattle.machine.specs.Plan.{plan_of}
 use Rattle.machine.specs.PlanLaws.{Ends, operand_by, plan_by}
 use Rattle.machine.specs.declared.Planned.{Planned}
 use Rattle.machine.specs.declared.State.{State}
+use Rattle.mmu.specs.Access.{violation}
 use Rattle.mmu.specs.Answers.{fault_number}
 use Rattle.mmu.specs.declared.Fault.{Fault}
 use Rattle.mmu.specs.declared.Fault.TheVariants.{Missing, Odd, Refused}
@@ -37,7 +38,7 @@ zeros_small (suc k) (suc j) n l h =
 pub record ByAccess (number : ℕ) (x : Plan) : Type 0 where
   pub why : Fault
   pub address : ℕ
-  pub failed : x ≡ Violation why address
+  pub failed : x ≡ Violation (violation why address)
   pub number_is : fault_number why ≡ number
 
 module _ (number : ℕ) (low : 10 ≤ number) (high : number < 12) where
@@ -48,12 +49,12 @@ module _ (number : ℕ) (low : 10 ≤ number) (high : number < 12) where
   abbrev Claim : Plan → Type 0
   Claim x = EntersWith number x → ByAccess number x
 
-  violation : (why : Fault) (a : ℕ) → Claim (Violation why a)
-  violation why a e = record { why = why; address = a; failed = refl; number_is = e }
+  failed_access : (why : Fault) (a : ℕ) → Claim (Violation (violation why a))
+  failed_access why a e = record { why = why; address = a; failed = refl; number_is = e }
 
   ends_access : (code : ℕ) → Ends Claim code
   ends_access code =
-      record { performs = λ op e h. absurd h; fails = violation; traps = λ trap saved l h e. absurd (omega arith) }
+      record { performs = λ op e h. absurd h; fails = failed_access; traps = λ trap saved l h e. absurd (omega arith) }
 
   pub plan_access : (st : State) (m : List ℕ) → st.pending < 1024 → Claim (plan_of st m).plan
   plan_access st m h =
@@ -61,8 +62,8 @@ module _ (number : ℕ) (low : 10 ≤ number) (high : number < 12) where
       (record {
         fetch = λ s a l. fetch_keeps (λ (s : State). s.pending < 1024) (λ s k right g. g) s a l;
         interrupt = λ s l e. absurd (line_other s.pending l e);
-        first = λ s l why. violation why _;
-        second = λ s l why. violation why _;
+        first = λ s l why. failed_access why _;
+        second = λ s l why. failed_access why _;
         undefined = λ s l e. absurd (omega arith);
         denied = λ s l e. absurd (omega arith);
         short = λ s l w shape d e. operand_by Claim s m _ _ (ends_access _);

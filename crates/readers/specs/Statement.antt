@@ -17,6 +17,7 @@ use Rattle.machine.specs.Through.{later}
 use Rattle.machine.specs.declared.Ending.TheVariants as ending
 use Rattle.machine.specs.declared.Event.TheVariants as event
 use Rattle.machine.specs.declared.State.{State}
+use Rattle.mmu.specs.Access.{violation}
 use Rattle.mmu.specs.Answers.{cause_bit, fault_number}
 use Rattle.mmu.specs.declared.Fault.{Fault}
 use Rattle.plan.specs.declared.Operation.{Operation}
@@ -86,7 +87,7 @@ pub record Shows (st : State) (m : List ℕ) (r : FaultRecord) : Type 0 where
   pub why : Fault
   pub address : ℕ
   -- in this step an access to this address was not granted, with fault 11
-  pub failed : (plan_of st m).plan ≡ Violation why address
+  pub failed : (plan_of st m).plan ≡ Violation (violation why address)
   pub number : fault_number why ≡ 11
   -- the address, the cause bit among those that were there, and the missed page of before
   pub violation : r.violation ≡ address

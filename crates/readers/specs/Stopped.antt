@@ -15,8 +15,10 @@ use Rattle.machine.specs.declared.Ending.{Ending}
 use Rattle.machine.specs.declared.Ending.TheVariants as ending
 use Rattle.machine.specs.declared.Event.TheVariants as event
 use Rattle.machine.specs.declared.State.{State}
+use Rattle.mmu.specs.Access.{violation}
 use Rattle.mmu.specs.Answers.{fault_number}
 use Rattle.mmu.specs.declared.Fault.TheVariants.{Missing}
+use Rattle.plan.specs.Trap.{trap_number}
 use Rattle.plan.specs.declared.Plan.{Plan}
 use Rattle.plan.specs.declared.Plan.TheVariants.{Interrupt, Perform, Trap, Violation}
 use Rattle.roundtrip.specs.Statement.{GoodState}
@@ -29,8 +31,8 @@ use Rattle.readers.specs.Statement.{Last}
 -- nor 12 to 15.
 abbrev pub record_by : Plan → FaultRecord → FaultRecord
 record_by (Interrupt line) r = r
-record_by (Violation why a) r = record_after why a r
-record_by (Trap number saved) r = r
+record_by (Violation v) r = record_after v.fault v.address r
+record_by (Trap why saved) r = r
 record_by (Perform op) r = cond (eqb op.code IN) (record_after_in r op.port) r
 
 -- `step_stores`: so of every step, whether it carries out an instruction, enters the kernel or loses the machine
@@ -43,15 +45,15 @@ StepStores =
 -- the plan is to enter the kernel with this number
 abbrev pub EntersWith : ℕ → Plan → Type 0
 EntersWith number (Interrupt line) = line ≡ number
-EntersWith number (Violation why a) = fault_number why ≡ number
-EntersWith number (Trap trap saved) = trap ≡ number
+EntersWith number (Violation v) = fault_number v.fault ≡ number
+EntersWith number (Trap why saved) = trap_number why ≡ number
 EntersWith number (Perform op) = ⊥
 
 -- the plan is to carry out an instruction, which is HALT or is not
 abbrev pub Performs : Bool → Plan → Type 0
 Performs halt (Interrupt line) = ⊥
-Performs halt (Violation why a) = ⊥
-Performs halt (Trap trap saved) = ⊥
+Performs halt (Violation v) = ⊥
+Performs halt (Trap why saved) = ⊥
 Performs halt (Perform op) = eqb op.code HALT ≡ halt
 
 -- "If SSP is odd the machine is lost instead": an entry was due
@@ -88,7 +90,7 @@ RunStopped =
 -- The record r shows the access that found no entry in a step: "10 stores the page", and nothing else.
 pub record Misses (st : State) (m : List ℕ) (r : FaultRecord) : Type 0 where
   pub address : ℕ
-  pub failed : (plan_of st m).plan ≡ Violation Missing address
+  pub failed : (plan_of st m).plan ≡ Violation (violation Missing address)
   pub missed : r.missed ≡ upper address
   pub violation : r.violation ≡ st.fault.violation
   pub cause : r.cause ≡ st.fault.cause

@@ -1,6 +1,6 @@
 -- The operation stage: what an instruction does once its operand is known, on hot states.
 -- Assumes nothing.
-use Rattle.std.specs.Prelude.{Bool, false, true, List, ◌≡◌, ℕ, ◌*◌, ◌+◌, ◌<◌, get_or, length, set}
+use Rattle.std.specs.Prelude.{Bool, false, true, List, ◌≡◌, ℕ, ◌*◌, ◌+◌, ◌<◌, get_or, length, set, Ok, Option, None, Some}
 use Rattle.std.proofs.Math.Path.{ap, refl}
 use Rattle.std.proofs.Common.{◌∙◌, arith, ne_eqb, length-set}
 use Rattle.decode.specs.Code.{CALL, CMP, JUMP, LD, LDFLAG, NO, POP, PUSH, RET, ST}
@@ -29,12 +29,10 @@ use Rattle.transfer.specs.Transfer.{transfer_of}
 use Rattle.plan.specs.declared.Operation.{Operation}
 use Rattle.plan.specs.declared.Plan.TheVariants.{Perform}
 use Rattle.machine.specs.declared.State.{State}
-use Rattle.transfer.specs.declared.Transfer.TheVariants.{Done}
 use Rattle.mmu.specs.Access.{access_of, granted}
 use Rattle.memory.specs.Memory.{store_word, stored, word_at, write_at}
 use Rattle.mmu.specs.declared.Right.TheVariants.{Read, Write}
 use Rattle.memory.specs.declared.Store.{Store}
-use Rattle.memory.specs.declared.Store.TheVariants as store
 use Rattle.word.specs.declared.Width.{Width}
 use Rattle.word.specs.declared.Width.TheVariants.{Word}
 use Rattle.alu.specs.Alu.{places, sub_of}
@@ -76,7 +74,7 @@ some_condition w n = rw (undefined_thirteen (rd_field w) (omega arith), ne_eqb (
 -- an operation from ADD to SHRL but CMP
 module _ (st : State) (m : List ℕ) (rd held source port pc states : ℕ) where
   abbrev op : ℕ → Operation
-  op code = record { code = code; rd = rd; held = held; source = source; port = port; pc = pc; states = states; store = store.Nothing }
+  op code = record { code = code; rd = rd; held = held; source = source; port = port; pc = pc; states = states; store = None }
 
   abbrev after : ℕ → Outcome
   after code =
@@ -128,12 +126,12 @@ module _ (b : State) (rs : List ℕ) (size : length rs ≡ 16) (h : Hot) (m : Li
           cost = cost;
           source = x;
           second = 0;
-          store = store.Nothing;
+          store = None;
         }) h.pc (taken st rd)) st
     unfolding need_of
     ends o e =
         IsEntry st m w o e (low_register rd low) s.operand next s.reached
-        ∙ accessed st m _ next x store.Nothing (s.source _)
+        ∙ accessed st m _ next x None (s.source _)
 
     pub load_does : upper w ≡ LD * 8 + mode → Does b rs h m w (set rs rd x) next h.v h.c (s_of h) (z_of h) m (load_cost mode)
     unfolding end_of commit after_operation body_of event_of stored
@@ -176,9 +174,9 @@ module _ (b : State) (rs : List ℕ) (size : length rs ≡ 16) (h : Hot) (m : Li
     ins = record { code = code; rd = rd; operand = x; cost = cost; access = access; flow = f }
 
     finishes :
-        (source : ℕ) (s : Store)
+        (source : ℕ) (s : Option Store)
         → transfer_of (need_of access (reg_of st next) (sp_of st) (flag_of st) (address_of (reg_of st next) x) x) (translates st) st.tlb m (value_stored code (reg_of st next rd) next)
-        ≡ record { transfer = Done source 0 s; tlb = st.tlb }
+        ≡ record { transfer = Ok (record { source = source; second = 0; store = s }); tlb = st.tlb }
         → plan_first (first_of w) st m ≡ planned (end_of f (readied st ins next source s) h.pc (taken st rd)) st
     finishes source s t = IsEntry st m w o e fine x next reached ∙ accessed st m ins next source s t
 
@@ -186,11 +184,11 @@ module _ (b : State) (rs : List ℕ) (size : length rs ≡ 16) (h : Hot) (m : Li
     module _ (o : Opens byte JUMP mode condition data-access.None flow.Jump cost) (n : rd ≡ 13 → ⊥) where
       pub jump_does : holds (condition_of rd h.v h.c (s_of h) (z_of h)) ≡ true → Does b rs h m w rs a h.v h.c (s_of h) (z_of h) m (cost + 1)
       unfolding need_of transfer_of end_of commit after_operation body_of event_of stored
-      jump_does t = rw (finishes o e (some_condition w n) p.operand next p.reached 0 store.Nothing refl, t, p.address)
+      jump_does t = rw (finishes o e (some_condition w n) p.operand next p.reached 0 None refl, t, p.address)
 
       pub pass_does : holds (condition_of rd h.v h.c (s_of h) (z_of h)) ≡ false → Does b rs h m w rs next h.v h.c (s_of h) (z_of h) m cost
       unfolding need_of transfer_of end_of commit after_operation body_of event_of stored
-      pass_does t = rw (finishes o e (some_condition w n) p.operand next p.reached 0 store.Nothing refl, t)
+      pass_does t = rw (finishes o e (some_condition w n) p.operand next p.reached 0 None refl, t)
 
     pub call_does :
         Opens byte CALL mode unused data-access.Push flow.Call cost → (sp at : ℕ) → sp ≡ minus (get_or rs 13 0) 2 → Grants b Write sp at
@@ -198,7 +196,7 @@ module _ (b : State) (rs : List ℕ) (size : length rs ≡ 16) (h : Hot) (m : Li
     unfolding need_of value_stored transfer_of end_of commit after_operation body_of event_of stored
     call_does o sp at q g =
         rw (
-          finishes o e refl p.operand next p.reached 0 (store.At Word at next)
+          finishes o e refl p.operand next p.reached 0 (Some (record { width = Word; address = at; value = next }))
               (rw (sp_hot b rs h.pc h.v h.c (s_of h) (z_of h), ← q, g)),
           p.address,
           sp_hot b rs a h.v h.c (s_of h) (z_of h),
@@ -212,7 +210,7 @@ module _ (b : State) (rs : List ℕ) (size : length rs ≡ 16) (h : Hot) (m : Li
         → Does b rs h m w rs next h.v h.c (s_of h) (z_of h) (write_at width m at held) cost
     unfolding need_of value_stored transfer_of end_of commit after_operation body_of event_of stored
     store_does width p at g =
-        rw (finishes o e (low_register rd low) p.operand next p.reached 0 (store.At width at held) (rw (p.wide, p.address, g, reg next rd low)))
+        rw (finishes o e (low_register rd low) p.operand next p.reached 0 (Some (record { width = width; address = at; value = held })) (rw (p.wide, p.address, g, reg next rd low)))
 
   -- ---- single bytes
 
@@ -225,14 +223,14 @@ module _ (b : State) (rs : List ℕ) (size : length rs ≡ 16) (h : Hot) (m : Li
     unfolding opcode_of in_rows in_modes mode_bits rows row eight single add_states div_states shift_states cost_of states_at need_of transfer_of end_of commit after_operation body_of event_of stored
     no_does e =
         rw (finishes {code = NO} {cost = 3} {access = data-access.None} {f = flow.Next} (opens _ refl refl) e refl
-        operand.Nothing next alone 0 store.Nothing refl)
+        operand.Nothing next alone 0 None refl)
 
     pub flag_does :
         upper w ≡ ST * 8 + 4 → rd < 14 → (x : ℕ) → x ≡ flag_of st → Does b rs h m w (set rs rd x) next h.v h.c (s_of h) (z_of h) m 4
     unfolding opcode_of in_rows in_modes mode_bits rows row eight single add_states div_states shift_states cost_of states_at need_of transfer_of end_of commit after_operation body_of event_of stored
     flag_does e low x q =
         rw (finishes {code = LDFLAG} {cost = 4} {access = data-access.Flag} {f = flow.Next} (opens _ refl refl) e (low_register rd low)
-        operand.Nothing next alone x store.Nothing (rw q))
+        operand.Nothing next alone x None (rw q))
         (ap (λ (y : State). did y m 4) (with_hot b rs next h.v h.c (s_of h) (z_of h) size rd x low))
 
     pub push_does :
@@ -243,7 +241,7 @@ module _ (b : State) (rs : List ℕ) (size : length rs ≡ 16) (h : Hot) (m : Li
     push_does e low sp at q g =
         rw (
           finishes {code = PUSH} {cost = 5} {access = data-access.Push} {f = flow.Next} (opens _ refl refl) e (low_register rd low)
-              operand.Nothing next alone 0 (store.At Word at held) (rw (sp_hot b rs h.pc h.v h.c (s_of h) (z_of h), ← q, g, reg next rd low)),
+              operand.Nothing next alone 0 (Some (record { width = Word; address = at; value = held })) (rw (sp_hot b rs h.pc h.v h.c (s_of h) (z_of h), ← q, g, reg next rd low)),
           sp_hot b rs next h.v
               h.c (s_of h) (z_of h),
           ← q,
@@ -258,7 +256,7 @@ module _ (b : State) (rs : List ℕ) (size : length rs ≡ 16) (h : Hot) (m : Li
     pop_does e low at sp x g q k =
         rw (
           finishes {code = POP} {cost = 6} {access = data-access.Pop} {f = flow.Next} (opens _ refl refl) e (low_register rd low)
-              operand.Nothing next alone x store.Nothing (rw (sp_hot b rs h.pc h.v h.c (s_of h) (z_of h), g, q)),
+              operand.Nothing next alone x None (rw (sp_hot b rs h.pc h.v h.c (s_of h) (z_of h), g, q)),
           sp_hot b rs next h.v h.c (s_of h) (z_of h),
           ← k,
         )
@@ -273,7 +271,7 @@ module _ (b : State) (rs : List ℕ) (size : length rs ≡ 16) (h : Hot) (m : Li
     ret_does e at sp x g q k =
         rw (
           finishes {code = RET} {cost = 6} {access = data-access.Pop} {f = flow.Return} (opens _ refl refl) e refl operand.Nothing
-              next alone x store.Nothing (rw (sp_hot b rs h.pc h.v h.c (s_of h) (z_of h), g, q)),
+              next alone x None (rw (sp_hot b rs h.pc h.v h.c (s_of h) (z_of h), g, q)),
           sp_hot b rs x h.v h.c (s_of h) (z_of h),
           ← k,
         )

@@ -1,6 +1,6 @@
 -- The stages of a step whose accesses are granted and leave the TLB as it is: the first word, the second word, the operand, the end.
 -- Assumes nothing.
-use Rattle.std.specs.Prelude.{false, true, List, ◌≡◌, ℕ}
+use Rattle.std.specs.Prelude.{false, true, List, ◌≡◌, ℕ, Ok, Option}
 use Rattle.decode.specs.Decode.{first_of, has_second, operand_of, rd_bad, rd_field, rx_field, shape_of}
 use Rattle.decode.specs.Instructions.{Row}
 use Rattle.decode.specs.Opcode.{cost_of, known, opcode_of}
@@ -18,7 +18,6 @@ use Rattle.transfer.specs.Transfer.{transfer_of}
 use Rattle.plan.specs.declared.Ready.{Ready}
 use Rattle.machine.specs.declared.Planned.{Planned}
 use Rattle.machine.specs.declared.State.{State}
-use Rattle.transfer.specs.declared.Transfer.TheVariants.{Done}
 use Rattle.mmu.specs.Access.{access_of, granted}
 use Rattle.memory.specs.Memory.{word_at}
 use Rattle.mmu.specs.declared.Right.{Right}
@@ -41,7 +40,7 @@ instruction r mode w x =
     record { code = r.code; rd = rd_field w; operand = x; cost = cost_of r mode; access = r.access; flow = r.flow }
 
 -- the same before its last tests, its data access done
-abbrev pub readied : State → Instruction → ℕ → ℕ → Store → Ready
+abbrev pub readied : State → Instruction → ℕ → ℕ → Option Store → Ready
 readied st ins following source store =
     record {
       code = ins.code;
@@ -84,11 +83,11 @@ module _ (st : State) (m : List ℕ) where
 
   -- the data access is done
   pub accessed :
-      (ins : Instruction) (following source : ℕ) (store : Store)
+      (ins : Instruction) (following source : ℕ) (store : Option Store)
       → transfer_of
       (need_of ins.access (reg_of st following) (sp_of st) (flag_of st) (address_of (reg_of st following) ins.operand) ins.operand) (translates st)
       st.tlb m (value_stored ins.code (reg_of st following ins.rd) following)
-      ≡ record { transfer = Done source 0 store; tlb = st.tlb }
+      ≡ record { transfer = Ok (record { source = source; second = 0; store = store }); tlb = st.tlb }
       → plan_operand st m ins following ≡ planned (end_of ins.flow (readied st ins following source store) st.pc (taken st ins.rd)) st
   unfolding plan_operand
   accessed ins following source store e = rw e

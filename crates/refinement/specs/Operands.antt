@@ -1,6 +1,6 @@
 -- The operand stage: what each mode names, whatever the instruction.
 -- Assumes nothing.
-use Rattle.std.specs.Prelude.{List, ◌≡◌, ℕ, ◌*ℤ◌}
+use Rattle.std.specs.Prelude.{List, ◌≡◌, ℕ, ◌*ℤ◌, Ok}
 use Rattle.std.proofs.Math.Path.{refl}
 use Rattle.std.proofs.Common.{◌∙◌}
 use Rattle.std.proofs.Math.IntN.{pos}
@@ -48,7 +48,7 @@ pub record Sourced (st : State) (m : List ℕ) (w mode x next : ℕ) : Type 0 wh
   pub source :
       (value : ℕ)
       → transfer_of (load_need (reg_of st next) (address_of (reg_of st next) operand) operand) (translates st) st.tlb m value
-      ≡ record { transfer = loaded x; tlb = st.tlb }
+      ≡ record { transfer = Ok (loaded x); tlb = st.tlb }
 
 module _ (st : State) (m : List ℕ) (w : ℕ) where
   -- ---- addresses

@@ -1,28 +1,32 @@
 -- Laws of refusals, in which the number of the causes does not occur.
 -- Assumes nothing.
-use Rattle.std.specs.Prelude.{Bool, cond, false, true, refl, ◌≡◌, ℕ, ◌≤◌, leb}
+use Rattle.std.specs.Prelude.{Bool, cond, false, true, refl, ◌≡◌, ℕ, ◌≤◌, leb, Err, Ok}
+use Rattle.std.specs.Result.{result_and}
 use Rattle.std.proofs.Common.{arith, le-leb, leb-true}
 use Rattle.word.specs.Cases.{rest, this}
-use Rattle.refusal.specs.Refusal.{and_then, between, cause_number}
+use Rattle.refusal.specs.Refusal.{Validity, and_then, between, cause_number}
 use Rattle.refusal.specs.declared.Cause.{Cause}
 use Rattle.refusal.specs.declared.Cause.TheVariants.{CardLength, CommandBeyond, CommandShort, CommandUnknown, ImageField, ImageLength, MemoryLength, ReportLength, WinderSetting, WindowWidth}
 use Rattle.refusal.specs.declared.Refusal.{Refusal}
-use Rattle.refusal.specs.declared.Validity.{Validity}
-use Rattle.refusal.specs.declared.Validity.TheVariants.{Good, Refused}
 
 -- a refusal is not good
-pub not_good : {A : Type 0} (r : Refusal) → Refused r ≡ Good → A
+pub not_good : {A : Type 0} (r : Refusal) → ◌≡◌ {A = Validity} (Err r) (Ok tt) → A
 not_good r e = let z : ◌≡◌ {A = ℕ} 0 1 = cc in absurd (omega arith)
 
 -- both tests were passed
-pub then_good : (v w : Validity) → and_then v w ≡ Good → (v ≡ Good) × (w ≡ Good)
-then_good (Refused r) w e = not_good r e
-then_good Good w e = (refl, e)
+pub then_good : (v w : Validity) → and_then v w ≡ Ok tt → (v ≡ Ok tt) × (w ≡ Ok tt)
+then_good (Err r) w e = not_good r e
+then_good (Ok u) w e = (refl, e)
 
 -- a test by a truth value was passed
-pub test_good : (b : Bool) (v : Validity) (r : Refusal) → cond b v (Refused r) ≡ Good → (b ≡ true) × (v ≡ Good)
+pub test_good : (b : Bool) (v : Validity) (r : Refusal) → cond b v (Err r) ≡ Ok tt → (b ≡ true) × (v ≡ Ok tt)
 test_good true v r e = (refl, e)
 test_good false v r e = not_good r e
+
+-- `Result::and` is one test after the other
+pub and_is : (v w : Validity) → result_and v w ≡ and_then v w
+and_is (Err r) w = refl
+and_is (Ok u) w = refl
 
 -- a number within its bounds: it is one that is taken
 pub record Range (low high x : ℕ) : Type 0 where

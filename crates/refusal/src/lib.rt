@@ -3,13 +3,13 @@
 
 mod tests;
 
-pub use tests::{and_then, between, good_if, number_of, refused};
+pub use tests::{between, good_if, refused};
 
-// Why a call is refused, in the order of the tests.
-#[derive(Clone, Copy)]
+// Why a call is refused, in the order of the tests, by its number.
+#[derive(Clone, Copy, Debug, PartialEq, Eq)]
 pub enum Cause {
     // Memory is not 65,536 bytes.
-    MemoryLength,
+    MemoryLength = 1,
     // The image does not have an image's size.
     ImageLength,
     // An image field is beyond its values.
@@ -29,15 +29,11 @@ pub enum Cause {
 }
 
 // A cause, and its place: the position of the first bad command, or 0.
-#[derive(Clone, Copy)]
+#[derive(Clone, Copy, Debug, PartialEq, Eq)]
 pub struct Refusal {
     pub cause: Cause,
     pub place: u16,
 }
 
 // What the tests of a call say.
-#[derive(Clone, Copy)]
-pub enum Validity {
-    Good,
-    Refused(Refusal),
-}
+pub type Validity = Result<(), Refusal>;

@@ -3,9 +3,11 @@
 
 ghost use Rattle.std.specs.Prelude.{◌++◌, ◌≡◌, ◌≤◌, drop, length};
 ghost use Rattle.machine.specs.Answers.{ending_entered, ending_number};
+ghost use Rattle.machine.specs.Flag.{flag_of};
 ghost use Rattle.report.specs.Report as def;
 
-use machine::Ending;
+use endian::{put_bytes, put_word};
+use machine::{Ending, Finished};
 
 // The layout of a report: the offset of each part, and its size in bytes.
 pub const ENDING: usize = 0;
@@ -22,6 +24,7 @@ pub const FLAG: usize = 10;
 
 pub const REPORT: usize = 12;
 
+// The number that a report has for an ending, which no other crate asks for.
 fn ending_number(ending: Ending) -> u8
     ensures { result ≡ ending_number ending }
 {
@@ -33,54 +36,42 @@ fn ending_number(ending: Ending) -> u8
     }
 }
 
-fn ending_entered(ending: Ending) -> u8
-    ensures { result ≡ ending_entered ending }
+// The number entered or FFh, PC and FLAG: the saved ones if the kernel was entered.
+fn shown(ending: Ending, pc: u16, flag: u16) -> (u8, u16, u16)
+    ensures { result ≡ (ending_entered ending, def.pc_shown ending pc, def.flag_shown ending flag) }
 {
     match ending {
-        Ending::Spent => 0xff,
-        Ending::Entered(number, _, _) => number,
-        Ending::Halted => 0xff,
-        Ending::Lost => 0xff,
+        Ending::Entered(number, saved_pc, saved_flag) => (number, saved_pc, saved_flag),
+        Ending::Spent | Ending::Halted | Ending::Lost => (0xff, pc, flag),
     }
 }
 
-// PC: the saved one if the kernel was entered.
-fn pc_shown(ending: Ending, pc: u16) -> u16
-    ensures { result ≡ def.pc_shown ending pc }
-{
-    match ending {
-        Ending::Spent => pc,
-        Ending::Entered(_, saved, _) => saved,
-        Ending::Halted => pc,
-        Ending::Lost => pc,
-    }
-}
-
-// FLAG: the saved one if the kernel was entered.
-fn flag_shown(ending: Ending, flag: u16) -> u16
-    ensures { result ≡ def.flag_shown ending flag }
-{
-    match ending {
-        Ending::Spent => flag,
-        Ending::Entered(_, _, saved) => saved,
-        Ending::Halted => flag,
-        Ending::Lost => flag,
-    }
-}
-
-// The report written to the front of `report`, the bytes behind it kept.
+// A report written to the front of `report`, the bytes behind it kept. An array of 12 bytes would ask for no more than these.
 pub fn write_report(report: &mut [u8], ending: Ending, pc: u16, flag: u16, steps: u16, states: u32)
     requires { 12 ≤ length report.old }
     ensures { report.new ≡ def.report_of ending pc flag steps states ++ drop 12 report.old }
 {
-    let words = [
-        steps,
-        (states / 65536) as u16,
-        (states % 65536) as u16,
-        pc_shown(ending, pc),
-        flag_shown(ending, flag),
-    ];
+    let (number, pc, flag) = shown(ending, pc, flag);
     report[ENDING] = ending_number(ending);
-    report[NUMBER] = ending_entered(ending);
-    endian::put_words(report, STEPS, &words);
+    report[NUMBER] = number;
+    put_word(report, STEPS, steps);
+    put_bytes(report, STATES, &states.to_be_bytes());
+    put_word(report, PC, pc);
+    put_word(report, FLAG, flag);
+}
+
+// The report of a run.
+pub fn write_run(report: &mut [u8], run: Finished)
+    requires { 12 ≤ length report.old }
+    ensures { report.new ≡ def.report_of run.ending run.state.pc (flag_of run.state) run.steps run.states ++ drop 12 report.old }
+{
+    let flag = run.state.flags.word();
+    write_report(
+        report,
+        run.ending,
+        run.state.pc,
+        flag,
+        run.steps,
+        run.states,
+    );
 }

@@ -1,6 +1,6 @@
 -- The numbers of a plan fit their fields, if those of the state do and the memory is of bytes.
 -- Assumes nothing.
-use Rattle.std.specs.Prelude.{Bool, cond, false, true, List, eqb}
+use Rattle.std.specs.Prelude.{Bool, cond, false, true, List, eqb, Result, Ok, Err, Option, None, Some}
 use Prim.Native.Nat.{ℕ}
 use native.Mathlib.Omega.{arith}
 use Rattle.std.proofs.lemmas.Nat.{trailing_le}
@@ -17,6 +17,7 @@ use Rattle.machine.specs.Kept.{fetch_keeps, with_mark}
 use Rattle.transfer.specs.Need.{address_of, load_need, need_of, store_need, value_stored}
 use Rattle.machine.specs.Plan.{plan_of, plan_operand, plan_transfer, translates}
 use Rattle.plan.specs.End.{end_of, performs}
+use Rattle.plan.specs.Trap.{trap_number}
 use Rattle.machine.specs.PlanLaws.{plan_by}
 use Rattle.machine.specs.Register.{reg_in, reg_of, sp_in, sp_of}
 use Rattle.transfer.specs.Transfer.{read_second, transfer_at, transfer_of}
@@ -28,19 +29,17 @@ use Rattle.plan.specs.declared.Plan.TheVariants.{Interrupt, Perform, Trap, Viola
 use Rattle.machine.specs.declared.Planned.{Planned}
 use Rattle.plan.specs.declared.Ready.{Ready}
 use Rattle.machine.specs.declared.State.{State}
-use Rattle.transfer.specs.declared.Transfer.{Transfer}
-use Rattle.transfer.specs.declared.Transfer.TheVariants as transfer
+use Rattle.transfer.specs.declared.Data.{Data}
+use Rattle.mmu.specs.declared.Violation as mmu
 use Rattle.mmu.specs.Access.{access_of}
 use Rattle.mmu.specs.Entry.{marked}
 use Rattle.mmu.specs.Marks.{Like, marked_like}
 use Rattle.memory.specs.Memory.{read_at, word_at}
-use Rattle.mmu.specs.declared.Access.{Access}
-use Rattle.mmu.specs.declared.Access.TheVariants as access
 use Rattle.mmu.specs.declared.Accessed.{Accessed}
+use Rattle.mmu.specs.declared.Fault.{Fault}
 use Rattle.mmu.specs.declared.Right.{Right}
 use Rattle.mmu.specs.declared.Right.TheVariants as right
 use Rattle.memory.specs.declared.Store.{Store}
-use Rattle.memory.specs.declared.Store.TheVariants as store
 use Rattle.word.specs.Cases.{either}
 use Rattle.word.specs.Laws.{signed4_word, wrap_fits}
 use Rattle.word.specs.Word.{plus}
@@ -53,9 +52,9 @@ use Rattle.roundtrip.specs.Statement.{Byte, Bytes, EntryFits, Ranged, Word}
 -- ---- what fits
 
 -- the value that is stored
-abbrev pub StoreFits : Store → Type 0
-StoreFits store.Nothing = Unit {0}
-StoreFits (store.At w a v) = Word v
+abbrev pub StoreFits : Option Store → Type 0
+StoreFits None = Unit {0}
+StoreFits (Some s) = Word s.value
 
 pub record OperationFits (op : Operation) : Type 0 where
   pub held : Word op.held
@@ -65,8 +64,8 @@ pub record OperationFits (op : Operation) : Type 0 where
 
 abbrev pub PlanFits : Plan → Type 0
 PlanFits (Interrupt line) = Byte line
-PlanFits (Violation why a) = Word a
-PlanFits (Trap number saved) = Byte number × Word saved
+PlanFits (Violation v) = Word v.address
+PlanFits (Trap why saved) = Byte (trap_number why) × Word saved
 PlanFits (Perform op) = OperationFits op
 
 abbrev NeedFits : Need → Type 0
@@ -75,9 +74,12 @@ NeedFits (Read w a) = Word a
 NeedFits (ReadTwo a) = Word a
 NeedFits (Write w a) = Word a
 
-abbrev TransferFits : Transfer → Type 0
-TransferFits (transfer.Done source second s) = Word source × Word second × StoreFits s
-TransferFits (transfer.Fails why a) = Word a
+abbrev DataFits : Data → Type 0
+DataFits d = Word d.source × Word d.second × StoreFits d.store
+
+abbrev TransferFits : Result Data mmu.Violation → Type 0
+TransferFits (Ok d) = DataFits d
+TransferFits (Err v) = Word v.address
 
 record ReadyFits (x : Ready) : Type 0 where
   held : Word x.held
@@ -151,15 +153,15 @@ module _ (reg : ℕ → ℕ) (regs : (k : ℕ) → Word (reg k)) where
   need_fits operandAccess.PopTwo sp flag s f o h = s
 
 at_fits :
-    (x : Access) (a : ℕ) (done : ℕ → Transfer) → Word a → ((at : ℕ) → TransferFits (done at)) → TransferFits (transfer_at x a done)
-at_fits (access.At at) a done w h = h at
-at_fits (access.Fails why) a done w h = w
+    (x : Result ℕ Fault) (a : ℕ) (done : ℕ → Data) → Word a → ((at : ℕ) → DataFits (done at)) → TransferFits (transfer_at x a done)
+at_fits (Ok at) a done w h = h at
+at_fits (Err why) a done w h = w
 
 module _ (on : Bool) (m : List ℕ) (b : Bytes m) where
-  second_fits : (x : Access) (tlb : List ℕ) (a : ℕ) → Word a → TransferFits (read_second x on tlb m a).transfer
-  second_fits (access.At at) tlb a w =
+  second_fits : (x : Result ℕ Fault) (tlb : List ℕ) (a : ℕ) → Word a → TransferFits (read_second x on tlb m a).transfer
+  second_fits (Ok at) tlb a w =
       at_fits (access_of width.Word on tlb right.Read (plus a 2)).access (plus a 2) _ (wrap_fits _) (λ at'. (word_fits m b at, word_fits m b at', tt))
-  second_fits (access.Fails why) tlb a w = w
+  second_fits (Err why) tlb a w = w
 
   transfer_fits :
       (need : Need) → NeedFits need → (tlb : List ℕ) (value : ℕ) → Word value → TransferFits (transfer_of need on tlb m value).transfer
@@ -193,11 +195,11 @@ module _ (x : Ready) (f : ReadyFits x) (pc : ℕ) (own : Word pc) (jumps : Bool)
 
 module _ (st : State) (r : Ranged st) where
   planned_fits :
-      (x : Transfer) → TransferFits x → (ins : Instruction) (held address following : ℕ) → Word held → Word address → Word following
+      (x : Result Data mmu.Violation) → TransferFits x → (ins : Instruction) (held address following : ℕ) → Word held → Word address → Word following
       → PlanFits (plan_transfer x st ins held address following)
-  planned_fits (transfer.Done source second s) h ins held address following l a f =
+  planned_fits (Ok d) h ins held address following l a f =
       end_fits _ (record { held = l; address = a; following = f; source = h.0; second = h.1; store = h.2 }) st.pc r.next _ ins.flow
-  planned_fits (transfer.Fails why at) h ins held address following l a f = h
+  planned_fits (Err v) h ins held address following l a f = h
 
   by_operand :
       (m : List ℕ) → Bytes m → (ins : Instruction) (following : ℕ) → Word following → OperandFits (reg_of st following) ins.operand

@@ -1,6 +1,6 @@
 -- A step from a good and ranged state, on a memory of bytes, leads to a ranged state and a memory of bytes, and the numbers that it tells fit.
 -- Assumes nothing.
-use Rattle.std.specs.Prelude.{Bool, cond, false, true, List, ℕ, eqb, ltb, get_or, set}
+use Rattle.std.specs.Prelude.{Bool, cond, false, true, List, ℕ, eqb, ltb, get_or, set, Option, None, Some}
 use Rattle.std.proofs.Common.{arith}
 use Rattle.fault.specs.declared.FaultRecord.{FaultRecord}
 use Rattle.decode.specs.Code.{HALT}
@@ -20,18 +20,19 @@ use Rattle.machine.specs.State.{with_pc}
 use Rattle.machine.specs.Step.{commit, step_of}
 use Rattle.machine.specs.StepLaws.{body_by, enter_by}
 use Rattle.plan.specs.declared.Operation.{Operation}
+use Rattle.plan.specs.Trap.{trap_number}
 use Rattle.plan.specs.declared.Plan.{Plan}
 use Rattle.plan.specs.declared.Plan.TheVariants.{Interrupt, Perform, Trap, Violation}
 use Rattle.machine.specs.declared.State.{State}
 use Rattle.mmu.specs.Answers.{fault_number}
-use Rattle.memory.specs.Memory.{store_word, stored}
+use Rattle.memory.specs.Memory.{store_word, stored, write_at}
 use Rattle.mmu.specs.declared.Fault.{Fault}
 use Rattle.mmu.specs.declared.Fault.TheVariants.{Missing, Odd, Refused}
 use Rattle.memory.specs.declared.Store.{Store}
-use Rattle.memory.specs.declared.Store.TheVariants as store
 use Rattle.timer.specs.Laws.{in_by, out_by}
 use Rattle.timer.specs.Port.{after_in_at, after_out_at, control_stored, fired_word, value_at}
 use Rattle.timer.specs.declared.Timer.{Timer}
+use Rattle.word.specs.declared.Width.{Width}
 use Rattle.word.specs.declared.Width.TheVariants as width
 use Rattle.word.specs.Cases.{either}
 use Rattle.alu.specs.Laws.{add_of_fits, adds_of_fits, and_of_fits, div_of_fits, mod_of_fits, mul_of_fits, or_of_fits, shl_of_fits, shra_of_fits, shrl_of_fits, sub_of_fits, xor_of_fits}
@@ -178,11 +179,14 @@ noted_ranged Refused a h st r = search (r, r.words, r.entries)
 word_bytes_lem : (m : List ℕ) (a v : ℕ) → Bytes m → Word v → Bytes (store_word m a v)
 word_bytes_lem m a v b h = each_set Byte (set m a (upper v)) (plus a 1) (lower v) (each_set Byte m a (upper v) b (omega arith)) (omega arith)
 
-stored_bytes : (s : Store) → StoreFits s → (m : List ℕ) → Bytes m → Bytes (stored s m)
+stored_bytes : (s : Option Store) → StoreFits s → (m : List ℕ) → Bytes m → Bytes (stored s m)
 unfolding stored
-stored_bytes store.Nothing h m b = b
-stored_bytes (store.At width.Byte a v) h m b = each_set Byte m a (lower v) b (omega arith)
-stored_bytes (store.At width.Word a v) h m b = word_bytes_lem m a v b h
+stored_bytes None h m b = b
+stored_bytes (Some s) h m b = by s.width
+  where
+    by : (w : Width) → Bytes (write_at w m s.address s.value)
+    by width.Byte = each_set Byte m s.address (lower s.value) b (omega arith)
+    by width.Word = word_bytes_lem m s.address s.value b h
 
 pushed_bytes : (ssp : ℕ) (flags : Flags) (saved : ℕ) → Word (word_of flags) → Word saved → (m : List ℕ) → Bytes m → Bytes (pushed ssp flags saved m)
 unfolding pushed
@@ -219,8 +223,8 @@ module _ (m : List ℕ) (b : Bytes m) where
   commit_fits : (x : Plan) → PlanFits x → (st : State) → GoodState st → Ranged st → OutcomeFits (commit x st m)
   unfolding commit after_operation
   commit_fits (Interrupt line) f st g r = enter_fits st _ line _ r f r.next
-  commit_fits (Violation why a) f st g r = enter_fits (noted why a st) _ _ _ (noted_ranged why a f st r) (fault_small why) r.next
-  commit_fits (Trap number saved) f st g r = enter_fits st _ number saved r f.0 f.1
+  commit_fits (Violation v) f st g r = enter_fits (noted v.fault v.address st) _ _ _ (noted_ranged v.fault v.address f st r) (fault_small v.fault) r.next
+  commit_fits (Trap why saved) f st g r = enter_fits st _ (trap_number why) saved r f.0 f.1
   commit_fits (Perform op) f st g r =
       record {
         state = body_ranged (with_pc st op.pc) op (search (g, g.zeros)) (search (r, r.words, r.entries, f)) f;

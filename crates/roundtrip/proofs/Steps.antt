@@ -104,8 +104,8 @@ noted_good Refused a st g = let h = or_lt 2 st.fault.cause 1 g.causes (omega ari
 commit_good : (x : Plan) (st : State) (m : List ℕ) → GoodState st → GoodState (commit x st m).state
 unfolding commit after_operation
 commit_good (Interrupt line) st m g = enter_good st _ _ _ m g (omega (arith, g.lines))
-commit_good (Violation why a) st m g = enter_good (noted why a st) _ _ _ m (noted_good why a st g) g.lines
-commit_good (Trap number saved) st m g = enter_good st _ _ _ m g g.lines
+commit_good (Violation v) st m g = enter_good (noted v.fault v.address st) _ _ _ m (noted_good v.fault v.address st g) g.lines
+commit_good (Trap why saved) st m g = enter_good st _ _ _ m g g.lines
 commit_good (Perform op) st m g = body_good (with_pc st op.pc) op (search (g, g.zeros))
 
 pub step_good : (st : State) (m : List ℕ) → GoodState st → GoodState (step_of st m).state

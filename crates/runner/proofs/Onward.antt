@@ -5,7 +5,6 @@ use mathlib.Core.List.{List}
 use mathlib.Core.Path.{ap, refl, ◌∙◌, ◌≡◌}
 use Prim.Native.Nat.{ℕ, ◌*◌, ◌+◌, ◌-◌, ◌≤◌}
 use native.Mathlib.Omega.{arith}
-use lib.ListN.{length}
 use Rattle.machine.proofs.Turn.{Reached, after_event, goes_on}
 use Rattle.machine.specs.Answers.{states_of}
 use Rattle.machine.specs.Run.{Ran, go_from}
@@ -31,21 +30,26 @@ module _ {through : Bool} {allowance : ℕ} {st₀ : State} {m₀ : List ℕ} {s
   -- plain instructions
   pub onward :
       Reached through allowance st₀ m₀ st m n t → {st' : State} {m' : List ℕ} {k s : ℕ} → Goes st m k s st' m' → k ≤ allowance - n → s ≤ 65535 * k
-      → length m' ≡ length m → Reached through allowance st₀ m₀ st' m' (n + k) (t + s)
-  onward at {st'} {m'} {k} {s} g l b e =
+      → Reached through allowance st₀ m₀ st' m' (n + k) (t + s)
+  onward at {st'} {m'} {k} {s} g l b =
       let q : allowance - n ≡ allowance - (n + k) + k = omega (arith, at.steps) in
       record {
         left = at.left ∙ ap (λ (x : ℕ). go_from through x st m n t) q ∙ goes_run through g (allowance - (n + k)) n t;
-        size = e ∙ at.size;
         steps = omega (arith, at.steps);
         states = omega (arith, at.states);
       }
+
+  -- by the invariant of a run: plain instructions take no more steps than are spare
+  pub led :
+      {spare : ℕ} → Reached through allowance st₀ m₀ st m n t × (spare ≤ allowance - n) → {st' : State} {m' : List ℕ} {k s : ℕ}
+      → Goes st m k s st' m' → k ≤ spare → s ≤ 65535 * k → Reached through allowance st₀ m₀ st' m' (n + k) (t + s)
+  led i g k b = onward i.0 g (omega (arith, k, i.1)) b
 
   -- a step of the machine whose event is no entry
   pub goes_unentered :
       (at : Reached through allowance st₀ m₀ st m n t) {s : Stepped} {m' : List ℕ} {k : ℕ} → st.condition ≡ Running → (n ≡ allowance → ⊥)
       → (s ≡ answer (step_of st m)) × (m' ≡ (step_of st m).memory) → k ≡ states_of s.event → ((number pc flag : ℕ) → s.event ≡ event.Entered number pc flag → ⊥)
-      → length m' ≡ length m → k ≤ 65535 → Reached through allowance st₀ m₀ s.state m' (n + 1) (t + k)
+      → k ≤ 65535 → Reached through allowance st₀ m₀ s.state m' (n + 1) (t + k)
   goes_unentered at {s} {m'} {k} running more step cost none =
       goes_on at running more step cost
       (unentered through s.event none s.state m' (n + 1) (t + k) (go_from through (allowance - (n + 1)) s.state m' (n + 1) (t + k)))

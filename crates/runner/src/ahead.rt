@@ -1,8 +1,6 @@
 // Plain instructions from a state of the machine.
-ghost use Rattle.std.specs.Prelude.{◌&&◌, false, true, ◌≡◌, ◌*◌, ◌≤◌, length};
+ghost use Rattle.std.specs.Prelude.{◌&&◌, false, true, ◌≡◌, ◌≤◌};
 ghost use Rattle.alu.specs.Alu.{sign_of, zero_of};
-ghost use Rattle.machine.specs.Plan.{translates};
-ghost use Rattle.pages.specs.Kept.{Kept};
 ghost use Rattle.runner.specs.Goes.{Goes, Ready};
 ghost use Rattle.refinement.specs.Statement.{MapOf, hot, hot_state};
 
@@ -10,10 +8,12 @@ use crate::Part;
 use crate::quick::quick;
 use hot::{Hot, upper_flags};
 use machine::{Condition, State};
-use pages::{MAPS, page_map, renew};
+use memory::Memory;
+use pages::{Maps, page_map};
 use status::Flags;
 
-// The registers by their numbers, SP among them.
+// The registers by their numbers, SP among them: sixteen places, so that four bits name one without a test. They are copied one by one:
+// by `copy_from_slice` a tick of one step takes a fifth more machine instructions.
 fn spread(state: State) -> [u16; 16]
     ensures { hot state result state.pc state.flags.v state.flags.c state.flags.s state.flags.z ≡ state }
 {
@@ -28,23 +28,18 @@ fn spread(state: State) -> [u16; 16]
 fn gather(mut base: State, rs: [u16; 16], h: Hot) -> State
     ensures { result ≡ hot_state base rs h }
 {
-    let f = base.flags;
-    let flags = Flags {
-        e: f.e,
-        p: f.p,
-        i: f.i,
+    base.regs = [
+        rs[0], rs[1], rs[2], rs[3], rs[4], rs[5], rs[6], rs[7], rs[8], rs[9], rs[10], rs[11],
+        rs[12],
+    ];
+    base.pc = h.pc;
+    base.flags = Flags {
         v: h.v,
         c: h.c,
         s: h.s(),
         z: h.z(),
+        ..base.flags
     };
-    let regs = [
-        rs[0], rs[1], rs[2], rs[3], rs[4], rs[5], rs[6], rs[7], rs[8], rs[9], rs[10], rs[11],
-        rs[12],
-    ];
-    base.regs = regs;
-    base.pc = h.pc;
-    base.flags = flags;
     base.set_sp(rs[13])
 }
 
@@ -59,26 +54,25 @@ fn result_of(s: bool, z: bool) -> u16
 }
 
 // Plain instructions of a machine that is ready for them, by a map of its pages.
-fn stretch(state: State, mem: &mut [u8], allowance: u16, map: &[u16; 256]) -> Part
-    requires { (length mem.old ≡ 65536) × Ready state × MapOf state map.now }
-    ensures goes { Goes state mem.old result.steps result.states result.state mem.new }
-    ensures bounds { (result.steps ≤ allowance) × (result.states ≤ 65535 * result.steps) }
+fn stretch(state: State, mem: &mut Memory, allowance: u16, map: &[u16; 256]) -> Part<State>
+    requires { Ready state × MapOf state map.now }
+    ensures goes { Goes state mem.old result.steps result.states result.at mem.new }
+    ensures steps { result.steps ≤ allowance }
 {
     let mut regs = spread(state);
-    let f = state.flags;
+    let flags = state.flags;
     let first = Hot {
         pc: state.pc,
-        v: f.v,
-        c: f.c,
-        result: result_of(f.s, f.z),
+        v: flags.v,
+        c: flags.c,
+        result: result_of(flags.s, flags.z),
         cost: 0,
     };
-    let q = quick(first, &mut regs, map, mem, upper_flags(f), allowance);
-    let last = q.hot;
+    let gone = quick(first, &mut regs, map, mem, upper_flags(flags), allowance);
     Part {
-        state: gather(state, regs, last),
-        steps: q.steps,
-        states: q.states,
+        at: gather(state, regs, gone.at),
+        steps: gone.steps,
+        states: gone.states,
     }
 }
 
@@ -87,56 +81,41 @@ fn stretch(state: State, mem: &mut [u8], allowance: u16, map: &[u16; 256]) -> Pa
 fn ready(state: State) -> bool
     ensures { result ≡ true → Ready state }
 {
-    let f = state.flags;
-    let calm = !state.interrupted() & !(f.s & f.z) & (state.pc % 2 == 0);
-    let condition = state.condition;
-    match condition {
-        Condition::Running => calm,
-        Condition::Halted => false,
-        Condition::Lost => false,
-    }
+    let flags = state.flags;
+    state.condition == Condition::Running
+        && !state.interrupted()
+        && !(flags.s && flags.z)
+        && state.pc % 2 == 0
 }
 
-// The maps made fit for the machine, which needs that of its TLB where it translates.
-fn fit(state: State, maps: &mut [[u16; 256]], origin: &mut [u32; 8])
-    requires { (length maps.old ≡ 2) × Kept origin.old maps.old }
-    ensures kept { Kept origin.new maps.new }
-    ensures fits { translates state ≡ true → origin.new ≡ state.tlb }
+// The map that the machine goes by. That of its TLB is needed only where it translates.
+fn fit(maps: &mut Maps, state: State) -> &[u16; 256]
+    ensures { MapOf state result.now }
 {
-    if state.translates() {
-        let tlb = state.tlb;
-        renew(maps, origin, tlb);
+    let on = state.translates();
+    if on {
+        maps.renew(state.tlb);
     }
+    maps.of(on)
 }
 
 // Plain instructions, where there may be any.
-pub fn ahead(
-    state: State,
-    mem: &mut [u8],
-    allowance: u16,
-    maps: &mut [[u16; 256]],
-    origin: &mut [u32; 8],
-) -> Part
-    requires { (length mem.old ≡ 65536) × Kept origin.old maps.old }
-    ensures goes { Goes state mem.old result.steps result.states result.state mem.new }
-    ensures bounds { (result.steps ≤ allowance) × (result.states ≤ 65535 * result.steps) }
-    ensures kept { Kept origin.new maps.new }
+pub fn ahead(state: State, mem: &mut Memory, allowance: u16, maps: Option<&mut Maps>) -> Part<State>
+    ensures goes { Goes state mem.old result.steps result.states result.at mem.new }
+    ensures steps { result.steps ≤ allowance }
 {
-    if allowance != 0 {
-        if ready(state) {
-            let on = state.translates();
-            if maps.len() == MAPS {
-                fit(state, maps, origin);
-                return stretch(state, mem, allowance, &maps[on as usize]);
-            }
-            let tlb = state.tlb;
-            let map = page_map(on, tlb);
-            return stretch(state, mem, allowance, &map);
-        }
+    if allowance == 0 || !ready(state) {
+        return Part {
+            at: state,
+            steps: 0,
+            states: 0,
+        };
     }
-    Part {
-        state,
-        steps: 0,
-        states: 0,
+    match maps {
+        Some(kept) => stretch(state, mem, allowance, fit(kept, state)),
+        None => {
+            let map = page_map(state.translates(), state.tlb);
+            stretch(state, mem, allowance, &map)
+        }
     }
 }

@@ -2,26 +2,19 @@
 // other step is the machine's.
 #![tactic(auto)]
 
+ghost use Rattle.std.specs.Prelude.{◌*◌, ◌≤◌};
+
 mod ahead;
 mod quick;
 mod runs;
 
-use hot::Hot;
-use machine::State;
 pub use runs::run;
 
-// The end of the loop: how many instructions, and their states.
-#[derive(Clone, Copy)]
-pub struct Stretch {
-    pub hot: Hot,
+// Where plain instructions have led, how many they were, and their states.
+#[derive(Drop)]
+pub struct Part<T> {
+    pub at: T,
     pub steps: u16,
     pub states: u32,
-}
-
-// Where plain instructions have led.
-#[derive(Clone, Copy)]
-pub struct Part {
-    pub state: State,
-    pub steps: u16,
-    pub states: u32,
+    pub ghost bound: { states ≤ 65535 * steps },
 }

@@ -8,18 +8,15 @@ ghost use Rattle.settings.specs.Settings as def;
 use decode::register::*;
 use machine::{Ports, State};
 
-// 02: register 13 is SSP whatever P is.
+// 02: register 13 is SSP whatever P is, so this is not what an instruction writes.
+#[tactic(auto, unfolding(crate::specs::Settings::with_register))]
 pub fn assign_register(mut state: State, number: u8, value: u16) -> State
     ensures { result ≡ def.with_register state number value }
 {
     match number {
         SP => state.ssp = value,
         USP => state.usp = value,
-        0..=FP => {
-            let mut regs = state.regs;
-            regs[number as usize] = value;
-            state.regs = regs;
-        }
+        0..=FP => state.regs[number as usize] = value,
         _ => state.pc = value,
     }
     state
@@ -29,13 +26,8 @@ pub fn assign_register(mut state: State, number: u8, value: u16) -> State
 pub fn add_lines(mut state: State, lines: u16, byte: u8) -> State
     ensures { result ≡ def.with_lines state lines byte }
 {
-    let old = state.ports;
-    let ports = Ports {
-        input: byte,
-        output: old.output,
-    };
-    state.pending = state.pending | lines;
-    state.ports = ports;
+    state.pending |= lines;
+    state.ports.input = byte;
     state
 }
 
@@ -43,31 +35,26 @@ pub fn add_lines(mut state: State, lines: u16, byte: u8) -> State
 pub fn set_entry(mut state: State, number: u8, bits: u32) -> State
     ensures { result ≡ with_tlb state (set state.tlb number bits) }
 {
-    if 8 <= number {
-        return state;
+    if number < 8 {
+        state.tlb[number as usize] = bits;
     }
-    let mut tlb = state.tlb;
-    tlb[number as usize] = bits;
-    state.tlb = tlb;
     state
 }
 
 // 06.
-pub fn set_mmu(mut state: State, on: bool) -> State
+pub fn set_mmu(state: State, on: bool) -> State
     ensures { result ≡ with_mmu state on }
 {
-    state.mmu = on;
-    state
+    State { mmu: on, ..state }
 }
 
 // 08: milliseconds pass.
+#[tactic(auto, using(crate::specs::Laws::time_at_once))]
 pub fn pass_time(mut state: State, ms: u16) -> State
     ensures { result ≡ def.after_time ms state }
 {
-    let old = state.timers;
-    let passed = old.pass(ms);
-    let timers = passed.timers;
-    state.pending = state.pending | passed.lines;
-    state.timers = timers;
+    let passed = state.timers.pass(ms);
+    state.pending |= passed.lines;
+    state.timers = passed.timers;
     state
 }

@@ -1,11 +1,12 @@
 // The operand stage: what each mode names, and its value.
-ghost use Rattle.std.specs.Prelude.{◌≡◌, ◌%◌, length};
+ghost use Rattle.std.specs.Prelude.{◌≡◌, ◌%◌};
 ghost use Rattle.decode.specs.Decode.{rx_field};
 ghost use Rattle.source.specs.Fields.{frame_place, indexed_address, mode_of, short_of};
 ghost use Rattle.source.specs.Sources.{SourceIs};
 
 use crate::registers::{FP, rx, wide};
 use decode::frame_offset;
+use memory::Memory;
 use pages::{NONE, fetch, read};
 use word::{Width, plus, sign_extend, to_word};
 
@@ -55,12 +56,12 @@ fn operand(value: u32, next: u16, cost: u32) -> Source
 pub fn source_of(
     regs: &[u16; 16],
     map: &[u16; 256],
-    mem: &[u8],
+    mem: &Memory,
     pc: u16,
     w: u32,
     mode: u32,
 ) -> Source
-    requires { (length mem.now ≡ 65536) × (pc % 2 ≡ 0) × (mode_of w ≡ mode) }
+    requires { (pc % 2 ≡ 0) × (mode_of w ≡ mode) }
     ensures { SourceIs regs.now map.now mem.now pc w result }
 {
     let after = plus(pc, 2);

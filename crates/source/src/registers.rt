@@ -16,7 +16,7 @@ const PC: u32 = decode::register::PC as u32;
 pub fn wide(x: u16) -> u32
     ensures { result ≡ x }
 {
-    x as u32
+    u32::from(x)
 }
 
 // A register below 14, by the lowest four bits of `n`.

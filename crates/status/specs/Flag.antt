@@ -1,13 +1,11 @@
 -- The word FLAG. Document 01, "Registers and state image": "FLAG is 0000 0000 EPI0 VCSZ".
 -- Assumes nothing.
-use Rattle.std.specs.Prelude.{Bool, false, true, ◌||◌, ℕ, ◌*◌, ◌+◌}
+use Rattle.std.specs.Prelude.{Bool, false, true, ◌||◌, ℕ, ◌*◌, ◌+◌, Option, None, Some}
 use mir.Val.{bool_byte}
 use Rattle.decode.specs.declared.Privilege.{Privilege}
 use Rattle.decode.specs.declared.Privilege.TheVariants.{Anyone, Kernel, Ports}
 use Rattle.jump.specs.Jump.{condition_of}
 use Rattle.word.specs.Word.{is_set}
-use Rattle.jump.specs.declared.Test.{Test}
-use Rattle.jump.specs.declared.Test.TheVariants as test
 use Rattle.status.specs.declared.Flags.{Flags}
 
 -- `bool_byte` is 1 of a flag that is set, and 0 of one that is not
@@ -38,10 +36,10 @@ permitted_in Anyone p i = true
 permitted_in Ports p i = p || i
 permitted_in Kernel p i = p
 
-abbrev pub holds : Test → Bool
-holds test.Holds = true
-holds test.Fails = false
-holds test.Undefined = false
+-- a condition that is undefined does not hold
+abbrev pub holds : Option Bool → Bool
+holds (Some b) = b
+holds None = false
 
 -- a jump is taken, by the condition of this number
 abbrev pub taken_on : ℕ → Bool → Bool → Bool → Bool → Bool

@@ -5,20 +5,21 @@ ghost use Rattle.status.specs.Flag as def;
 use crate::Flags;
 use alu::Alu;
 use decode::Privilege;
-use jump::Test;
+use jump::Arithmetic;
 
 impl Flags {
-    // FLAG as a word.
+    // FLAG as a word. A method, and `from_word` beside it: `From` of a number says less of what it is.
+    #[tactic(auto, unfolding(crate::specs::Flag::flag_word))]
     pub fn word(self) -> u16
         ensures { result ≡ def.word_of self }
     {
-        128 * (self.e as u16)
-            + 64 * (self.p as u16)
-            + 32 * (self.i as u16)
-            + 8 * (self.v as u16)
-            + 4 * (self.c as u16)
-            + 2 * (self.s as u16)
-            + self.z as u16
+        128 * u16::from(self.e)
+            + 64 * u16::from(self.p)
+            + 32 * u16::from(self.i)
+            + 8 * u16::from(self.v)
+            + 4 * u16::from(self.c)
+            + 2 * u16::from(self.s)
+            + u16::from(self.z)
     }
 
     // FLAG from a word, whose other bits are dropped.
@@ -41,13 +42,11 @@ impl Flags {
         ensures { result ≡ def.flags_with self r.v r.c r.s r.z }
     {
         Flags {
-            e: self.e,
-            p: self.p,
-            i: self.i,
             v: r.v,
             c: r.c,
             s: r.s,
             z: r.z,
+            ..self
         }
     }
 
@@ -58,11 +57,7 @@ impl Flags {
         Flags {
             e: false,
             p: true,
-            i: self.i,
-            v: self.v,
-            c: self.c,
-            s: self.s,
-            z: self.z,
+            ..self
         }
     }
 
@@ -81,17 +76,7 @@ impl Flags {
     pub fn taken(self, n: u8) -> bool
         ensures { result ≡ def.taken_on n self.v self.c self.s self.z }
     {
-        taken(n, self.v, self.c, self.s, self.z)
-    }
-}
-
-// Whether a jump is taken, by the condition of this number and these flags.
-pub fn taken(n: u8, v: bool, c: bool, s: bool, z: bool) -> bool
-    ensures { result ≡ def.taken_on n v c s z }
-{
-    match jump::condition(n, v, c, s, z) {
-        Test::Holds => true,
-        Test::Fails => false,
-        Test::Undefined => false,
+        let Flags { v, c, s, z, .. } = self;
+        Arithmetic { v, c, s, z }.condition(n) == Some(true)
     }
 }

@@ -5,7 +5,6 @@ mod flag;
 mod pending;
 mod saved;
 
-pub use flag::taken;
 pub use pending::without;
 
 // FLAG: E interrupts on, P privileged, I I/O privilege, V overflow, C carry, S sign, Z zero.

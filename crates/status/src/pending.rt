@@ -6,12 +6,9 @@ ghost use Rattle.status.specs.Pending as def;
 pub fn without(lines: u16, line: u8) -> u16
     ensures { result ≡ def.without lines line }
 {
-    if 16 <= line {
-        return 0;
+    if line < 16 {
+        lines.saturating_sub(1 << line)
+    } else {
+        0
     }
-    let bit = 1 << line;
-    if lines < bit {
-        return 0;
-    }
-    lines - bit
 }

@@ -3,90 +3,83 @@
 // case is written to standard output.
 #![tactic(auto)]
 
-ghost use Rattle.std.specs.Prelude.{◌+◌, ◌≤◌, length};
+ghost use Rattle.std.specs.Prelude.{◌<◌, ◌≤◌, length, IfSome};
 ghost use Rattle.layout.specs.Layout.{image_size};
 
+use endian::word_from;
 use layout::{FLAG, IMAGE};
+use std::cmp::min;
+use std::io;
 
-fn least(a: usize, b: usize) -> usize
-    ensures upper_bound { result ≤ a }
-    ensures upper_bound_2 { result ≤ b }
-{
-    if a < b { a } else { b }
+// A case: the lengths of memory, image and report, the bytes of FLAG, and the card.
+#[derive(Clone, Copy)]
+struct Case<'a> {
+    memory: usize,
+    image: usize,
+    report: usize,
+    flag: [u8; 2],
+    card: &'a [u8],
+    ghost within: { (memory ≤ 65536) × (image ≤ image_size) × (report ≤ 16380) },
 }
 
-// The listing of one case. Answers whether it was written.
-fn list_case(
-    rt: &impl Print,
-    card: &[u8],
-    lacks: usize,
-    absent: usize,
-    high: u8,
-    low: u8,
-    room: usize,
-) -> bool
-    requires { (lacks ≤ 65535) × (absent ≤ image_size) × (room ≤ 16380) }
-{
-    let mut memory = [0u8; 65536];
-    let mut image = [0u8; IMAGE];
-    image[FLAG] = high;
-    image[FLAG + 1] = low;
-    let mut report = [0u8; 16380];
-    let mut text = [0u8; 65536];
-    let memory_len = 65536 - lacks;
-    let image_len = IMAGE - absent;
-    let checked = card::validate_card(memory_len, &image[..image_len], card, room);
-    let validity = checked.validity;
-    let filled = card::run_card(
-        &mut memory[..memory_len],
-        &mut image[..image_len],
-        card,
-        &mut report[..room],
-    );
-    let written = listing::write_listing(validity, filled, &mut text);
-    rt.write_all(&text[..written]).is_ok()
-}
+impl<'a> Case<'a> {
+    // The first case, and what stands behind it.
+    fn first(cases: &'a [u8]) -> Option<(Case<'a>, &'a [u8])>
+        ensures { IfSome result (λ r. length r.1.now < length cases.now) }
+    {
+        let (front, behind) = cases.split_first_chunk::<9>()?;
+        let long = min(word_from(front, 7) as usize, behind.len());
+        let (card, rest) = behind.split_at(long);
+        let case = Case {
+            memory: 65536 - word_from(front, 0) as usize,
+            image: IMAGE.saturating_sub(front[2] as usize),
+            report: min(word_from(front, 5) as usize, 16380),
+            flag: [front[3], front[4]],
+            card,
+        };
+        Some((case, rest))
+    }
 
-// The case at `at`. Answers where the next one stands, or 0 if the listing was not written.
-fn run_case(rt: &impl Print, cases: &[u8], at: usize) -> usize
-    requires { at + 9 ≤ length cases.now }
-    ensures { result ≤ length cases.now }
-{
-    let absent = least(cases[at + 2] as usize, IMAGE);
-    let lacks = endian::word_from(cases, at) as usize;
-    let room = least(endian::word_from(cases, at + 5) as usize, 16380);
-    let start = at + 9;
-    let end = start
-        + least(
-            endian::word_from(cases, at + 7) as usize,
-            cases.len() - start,
+    // Writes its listing. `list_card` of bench is like it, and has a theorem of its own about its one start.
+    fn list(&self, rt: &impl Print) -> io::Result<()> {
+        let mut memory = [0u8; 65536];
+        let mut image = [0u8; IMAGE];
+        image[FLAG] = self.flag[0];
+        image[FLAG + 1] = self.flag[1];
+        let mut report = [0u8; 16380];
+        let mut text = [0u8; 65536];
+        let checked = card::validate_card(
+            self.memory,
+            &image[..self.image],
+            self.card,
+            self.report,
         );
-    let high = cases[at + 3];
-    let low = cases[at + 4];
-    if list_case(rt, &cases[start..end], lacks, absent, high, low, room) {
-        end
-    } else {
-        0
+        let filled = card::run_card(
+            &mut memory[..self.memory],
+            &mut image[..self.image],
+            self.card,
+            &mut report[..self.report],
+        );
+        let written = listing::write_listing(checked.validity, filled, &mut text);
+        rt.write_all(&text[..written])
     }
 }
 
-fn run_all(rt: &impl Print, cases: &[u8]) {
-    let mut at = 0;
-    while 9 <= cases.len() - at {
-        let next = run_case(rt, cases, at);
-        if next <= at {
-            return;
-        }
-        at = next;
+// Stops where a listing can't be written.
+fn run_all(rt: &impl Print, cases: &[u8]) -> io::Result<()> {
+    let mut left = cases;
+    while let Some((case, rest)) = Case::first(left) {
+        case.list(rt)?;
+        left = rest;
     }
+    Ok(())
 }
 
+// A read that fails prints nothing, and what can't be written ends the program without a word, both with status 0: so `main` returns no `Result`.
 fn main(rt: HostRuntime) {
     let mut cases = [0u8; 65536];
     let input = input::read_input(&mut rt.stdin(), &mut cases);
-    if !input.complete() {
-        return;
+    if input.complete() {
+        let _ = run_all(&rt, &cases[..input.count]);
     }
-    let count = input.count;
-    run_all(&rt, &cases[..count]);
 }

@@ -21,11 +21,8 @@ fn pack(answer: Answer) -> u64
     ensures unpacked { def.Unpacked result answer }
 {
     match answer {
-        Answer::Refused(refusal) => {
-            let cause = refusal.cause;
-            refusal::number_of(cause) as u64 * 0x1_0000_0000 + refusal.place as u64
-        }
-        Answer::Done(given) => given as u64,
+        Err(refusal) => { u8::from(refusal.cause) as u64 * 0x1_0000_0000 + refusal.place as u64 }
+        Ok(given) => given as u64,
     }
 }
 

@@ -1,4 +1,4 @@
-// The calls of `tac`, exported for C under the same names and with the same clauses.
+// The calls of `tac`, exported for C under the same names and with the same clauses: a crate is a library for others or one for C, not both.
 #![tactic(auto)]
 
 ghost use Rattle.std.specs.Prelude.{◌≡◌};

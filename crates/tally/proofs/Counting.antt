@@ -1,12 +1,12 @@
 -- The loop that counts the runs of a card.
 -- Assumes nothing.
 use mathlib.Core.List.{[], List}
-use mathlib.Core.Path.{refl, ◌∙◌, ◌≡◌}
+use mathlib.Core.Path.{◌∙◌, ◌≡◌}
 use Prim.Native.Nat.{ℕ, ◌+◌, ◌≤◌}
 use native.Mathlib.Nat.{add-zero}
 use native.Mathlib.Omega.{arith}
 use lib.ListN.{length}
-use Rattle.refusal.specs.declared.Validity.{Validity}
+use Rattle.refusal.specs.Refusal.{Validity}
 use Rattle.command.specs.Card.{card_size, is_run, read_from, reading, runs_in}
 use Rattle.command.specs.Laws.{one_at_most}
 use Rattle.command.specs.declared.Command.{Command}
@@ -22,9 +22,6 @@ pub record Counting (card : List ℕ) (at runs : ℕ) : Type 0 where
   pub total : runs_in (read_from card 0).commands ≡ runs + runs_in (read_from card at).commands
   pub within : at ≤ length card
   pub few : runs ≤ at
-
-pub start : (card : List ℕ) → Counting card 0 0
-start card = record { validity = refl; total = omega arith; within = omega arith; few = omega arith }
 
 module _ {card : List ℕ} {at runs : ℕ} (so_far : Counting card at runs) where
   -- nothing more is read

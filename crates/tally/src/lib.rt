@@ -4,10 +4,10 @@
 ghost use Rattle.std.specs.Prelude.{◌≡◌, ◌≤◌, length};
 ghost use Rattle.command.specs.Card as def;
 
-use command::{Command, Parsed, parse};
-use refusal::{Cause, Refusal, Validity};
+use command::{Command, Commands};
+use refusal::{Cause, Validity};
 
-// The tests of a card by itself, and the number of its runs.
+// The tests of a card by itself, and the number of its runs: a refused card has both, so this is no `Result<usize, Refusal>`.
 #[derive(Clone, Copy)]
 pub struct CardValidity {
     pub validity: Validity,
@@ -21,16 +21,7 @@ const CARD: usize = 4096;
 fn is_run(command: Command) -> usize
     ensures { result ≡ def.is_run command }
 {
-    match command {
-        Command::Byte(_, _) => 0,
-        Command::Register(_, _) => 0,
-        Command::Lines(_, _) => 0,
-        Command::Run(_) => 1,
-        Command::Entry(_, _) => 0,
-        Command::Mmu(_) => 0,
-        Command::Flag(_) => 0,
-        Command::Time(_) => 0,
-    }
+    matches!(command, Command::Run(_)) as usize
 }
 
 // The commands of a card that is not too long.
@@ -39,27 +30,21 @@ fn count_commands(card: &[u8]) -> CardValidity
     ensures value { result ≡ record { validity = (def.read_from card.now 0).validity; runs = def.runs_in (def.read_from card.now 0).commands } }
     ensures bound { result.runs ≤ def.card_size }
 {
-    let mut at = 0;
     let mut runs = 0;
-    loop {
-        match parse(&card[at..], at) {
-            Parsed::End => {
+    for command in Commands::new(card) {
+        match command {
+            Ok(command) => runs += is_run(command),
+            Err(refusal) => {
                 return CardValidity {
-                    validity: Validity::Good,
+                    validity: Err(refusal),
                     runs,
                 };
-            }
-            Parsed::Bad(refusal) => {
-                return CardValidity {
-                    validity: Validity::Refused(refusal),
-                    runs,
-                };
-            }
-            Parsed::Next(command, next) => {
-                runs += is_run(command);
-                at = next;
             }
         }
+    }
+    CardValidity {
+        validity: Ok(()),
+        runs,
     }
 }
 
@@ -72,10 +57,7 @@ pub fn count(card: &[u8]) -> CardValidity
         count_commands(card)
     } else {
         CardValidity {
-            validity: Validity::Refused(Refusal {
-                cause: Cause::CardLength,
-                place: 0,
-            }),
+            validity: refusal::refused(Cause::CardLength),
             runs: 0,
         }
     }

@@ -1,8 +1,8 @@
 -- Laws of decimal digits: which number they say, and how many they are.
 -- Assumes nothing.
-use Rattle.std.specs.Prelude.{Bool, cond, false, true, refl, ◌≡◌, suc, zero, ℕ, ◌%◌, ◌*◌, ◌+◌, ◌-◌, ◌/◌, ◌<◌, ◌^◌, ◌≤◌, ltb, length}
+use Rattle.std.specs.Prelude.{Bool, cond, false, true, refl, ◌≡◌, ◌≢◌, suc, zero, ℕ, ◌%◌, ◌*◌, ◌+◌, ◌-◌, ◌/◌, ◌<◌, ◌^◌, ◌≤◌, ltb, length}
 use mathlib.Core.List.{List, [], foldl-append, ◌++◌, ◌∷◌}
-use Rattle.std.proofs.Common.{⊎_elim, eq-zero-or-pos, pow-suc, arith, length-append, le-ltb, lt-ltb, ltb-false, ltb-true}
+use Rattle.std.proofs.Common.{⊎_elim, eq-zero-or-pos, sub-one, pow-suc, arith, length-append, le-ltb, lt-ltb, ltb-false, ltb-true}
 use Prim.Native.Char.{code}
 use Rattle.text.specs.Text.{decimal_of, digit_of}
 use Rattle.text.specs.Laws.{decimal_value}
@@ -16,6 +16,15 @@ decimal_short k n h = rw (lt-ltb n 10 h)
 pub decimal_long : (k n : ℕ) → 10 ≤ n → decimal_of (suc k) n ≡ decimal_of k (n / 10) ++ (digit_of (n % 10) ∷ [])
 unfolding decimal_of
 decimal_long k n h = rw (le-ltb n 10 h)
+
+-- both, for any number of digits but none
+pub decimal_last : (k n : ℕ) → k ≢ 0 → n < 10 → decimal_of k n ≡ digit_of (n % 10) ∷ []
+decimal_last zero n p h = absurd (p refl)
+decimal_last (suc k) n p h = let same : n % 10 ≡ n = omega arith in rw (decimal_short k n h, same)
+
+pub decimal_more : (k n : ℕ) → k ≢ 0 → 10 ≤ n → decimal_of k n ≡ decimal_of (k - 1) (n / 10) ++ (digit_of (n % 10) ∷ [])
+decimal_more zero n p h = absurd (p refl)
+decimal_more (suc k) n p h = rw (decimal_long k n h, sub-one)
 
 digit_value : (d : ℕ) → d < 10 → digit_of d - code "0" ≡ d
 digit_value d h = rw (lt-ltb d 10 h) (omega arith)

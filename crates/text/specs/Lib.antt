@@ -1,4 +1,5 @@
 pub mod Laws
 pub mod Text
+pub mod Writer
 pub mod Written
 pub mod Wrote

@@ -38,8 +38,3 @@ module _ {t₀ t₁ : List ℕ} {at₀ at₁ : ℕ} {xs : List ℕ} (w : WroteTe
 -- a cursor that is within the buffer
 pub nothing : (t : List ℕ) (at : ℕ) → at ≤ length t → WroteText t t at at []
 nothing t at h = record { text = refl; cursor = omega arith }
-
--- the invariant of a loop that writes: so many of the pieces are written
-pub record Writing (before after : List ℕ) (from to : ℕ) (pieces : List ℕ) (i n : ℕ) : Type 0 where
-  pub wrote : WroteText before after from to pieces
-  pub within : i ≤ n

@@ -21,7 +21,7 @@ pub struct Timers {
     pub timer1: Timer,
 }
 
-// A timer after some milliseconds, and whether its line was raised in them.
+// A timer after some milliseconds, and whether its line was raised in them: no `Option`, as there is a timer in both cases.
 #[derive(Clone, Copy)]
 pub struct Elapsed {
     pub timer: Timer,

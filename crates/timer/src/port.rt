@@ -1,15 +1,17 @@
 // The ports of the timers.
-ghost use Rattle.std.specs.Prelude.{◌≡◌, ◌≤◌};
+ghost use Rattle.std.specs.Prelude.{◌≡◌};
 ghost use Rattle.timer.specs.Port as def;
 
 use crate::{Timer, Timers};
 
-// The first port of each timer, which gives the count and sets the period.
+// The first port of each timer.
 const TIMER0: u16 = 0x00;
 
 const TIMER1: u16 = 0x04;
 
-// From there to the one that gives fired and sets control.
+// From there to the port that gives the count and sets the period, and to the one that gives fired and sets control.
+const COUNT: u16 = 0;
+
 const CONTROL: u16 = 2;
 
 // Fired as IN reads it: bit 15.
@@ -24,11 +26,13 @@ impl Timer {
     }
 
     // IN of 02h and 06h leaves this.
-    fn clear_fired(mut self) -> Timer
+    fn clear_fired(self) -> Timer
         ensures { result ≡ def.fired_cleared self }
     {
-        self.fired = false;
-        self
+        Timer {
+            fired: false,
+            ..self
+        }
     }
 
     // OUT to 00h and 04h.
@@ -38,59 +42,57 @@ impl Timer {
         Timer {
             count: 0,
             period: v,
-            control: self.control,
-            fired: self.fired,
+            ..self
         }
     }
 
     // OUT to 02h and 06h.
-    fn set_control(mut self, v: u16) -> Timer
+    fn set_control(self, v: u16) -> Timer
         ensures { result ≡ def.control_set self v }
     {
-        self.control = v / 32768 * 32768 + v % 2;
-        self
+        Timer {
+            control: v / 32768 * 32768 + v % 2,
+            ..self
+        }
     }
 
-    // What IN gives, `first` being the timer's first port; `elsewhere` if the port is not the timer's.
+    // What IN gives, `first` being the timer's first port; `elsewhere` if the port is not the timer's: the timers' ports lie over the others.
+    #[tactic(auto, unfolding(crate::specs::Port::value_at))]
     fn value(self, first: u16, elsewhere: u16, port: u16) -> u16
-        requires { first ≤ def.timer1_port }
         ensures { result ≡ def.value_at first self elsewhere port }
     {
-        if port == first {
-            return self.count;
+        match port.checked_sub(first) {
+            Some(COUNT) => self.count,
+            Some(CONTROL) => self.fired_word(),
+            _ => elsewhere,
         }
-        if port == first + CONTROL {
-            return self.fired_word();
-        }
-        elsewhere
     }
 
     // The timer after IN.
+    #[tactic(auto, unfolding(crate::specs::Port::after_in_at))]
     fn after_in(self, first: u16, port: u16) -> Timer
-        requires { first ≤ def.timer1_port }
         ensures { result ≡ def.after_in_at first self port }
     {
-        if port == first + CONTROL {
-            return self.clear_fired();
+        match port.checked_sub(first) {
+            Some(CONTROL) => self.clear_fired(),
+            _ => self,
         }
-        self
     }
 
     // The timer after OUT.
+    #[tactic(auto, unfolding(crate::specs::Port::after_out_at))]
     fn after_out(self, first: u16, port: u16, v: u16) -> Timer
-        requires { first ≤ def.timer1_port }
         ensures { result ≡ def.after_out_at first self port v }
     {
-        if port == first {
-            return self.set_period(v);
+        match port.checked_sub(first) {
+            Some(COUNT) => self.set_period(v),
+            Some(CONTROL) => self.set_control(v),
+            _ => self,
         }
-        if port == first + CONTROL {
-            return self.set_control(v);
-        }
-        self
     }
 }
 
+// Each says what it does to one timer and to the other: a closure that is called for both reads no plainer.
 impl Timers {
     // What IN gives; `elsewhere` if the port is no timer's.
     pub fn port_value(self, elsewhere: u16, port: u16) -> u16

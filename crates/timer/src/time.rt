@@ -17,18 +17,13 @@ fn line_if(raised: bool, line: u16) -> u16
     if raised { line } else { 0 }
 }
 
-fn lines_of(raised0: bool, raised1: bool) -> u16
-    ensures { result ≡ def.lines_of raised0 raised1 }
-{
-    line_if(raised0, LINE0) | line_if(raised1, LINE1)
-}
-
 impl Timer {
     // Whether milliseconds count: the timer is started, and its period is not 0.
+    #[tactic(auto, unfolding(crate::specs::Time::counts))]
     fn counts(self) -> bool
         ensures { result ≡ def.counts self }
     {
-        (self.control % 2 == 1) & (0 < self.period)
+        self.control % 2 == 1 && 0 < self.period
     }
 
     // Whether a firing raises the line.
@@ -38,31 +33,16 @@ impl Timer {
         self.control / 32768 % 2 == 1
     }
 
-    // The timer with another count and fired.
-    fn counted(self, count: u16, fired: bool) -> Timer
-        ensures { result ≡ def.counted self count fired }
-    {
-        Timer {
-            count,
-            period: self.period,
-            control: self.control,
-            fired,
-        }
-    }
-
     // What a first millisecond brings the count to, before it returns to 0.
     fn reached(self) -> u32
         ensures reached { result ≡ once.reached self }
         ensures bound { result ≤ 65536 }
     {
-        if self.count < self.period {
-            self.count as u32 + 1
-        } else {
-            self.period as u32
-        }
+        (self.count as u32 + 1).min(self.period as u32)
     }
 
     // A timer that counts, `total` milliseconds after its count was 0.
+    #[tactic(auto, using(crate::specs::AtOnce::has_period), unfolding(crate::specs::AtOnce::come_to))]
     fn come_to(self, total: u32) -> Elapsed
         requires { def.counts self ≡ true }
         ensures { result ≡ once.come_to total self }
@@ -70,46 +50,52 @@ impl Timer {
         let period = self.period as u32;
         if total < period {
             return Elapsed {
-                timer: self.counted(total as u16, self.fired),
+                timer: Timer {
+                    count: total as u16,
+                    ..self
+                },
                 raised: false,
             };
         }
         Elapsed {
-            timer: self.counted((total % period) as u16, true),
+            timer: Timer {
+                count: (total % period) as u16,
+                fired: true,
+                ..self
+            },
             raised: self.interrupts(),
         }
     }
 
     // After `ms` milliseconds.
+    #[tactic(auto, using(crate::specs::AtOnce::at_once, crate::specs::AtOnce::idle), unfolding(crate::specs::Time::elapsed))]
     fn elapse(self, ms: u16) -> Elapsed
         ensures { result ≡ def.elapsed ms self }
     {
-        if ms != 0 {
-            if self.counts() {
-                let total = self.reached() + (ms - 1) as u32;
-                return self.come_to(total);
-            }
+        if ms == 0 || !self.counts() {
+            return Elapsed {
+                timer: self,
+                raised: false,
+            };
         }
-        Elapsed {
-            timer: self,
-            raised: false,
-        }
+        self.come_to(self.reached() + (ms - 1) as u32)
     }
 }
 
 impl Timers {
     // After `ms` milliseconds. It takes no longer for many than for one.
+    #[tactic(auto, unfolding(crate::specs::Time::lines_of))]
     pub fn pass(self, ms: u16) -> Passed
         ensures { result ≡ def.passed_of ms self }
     {
         let first = self.timer0.elapse(ms);
         let second = self.timer1.elapse(ms);
-        let timer0 = first.timer;
-        let timer1 = second.timer;
-        let timers = Timers { timer0, timer1 };
         Passed {
-            timers,
-            lines: lines_of(first.raised, second.raised),
+            timers: Timers {
+                timer0: first.timer,
+                timer1: second.timer,
+            },
+            lines: line_if(first.raised, LINE0) | line_if(second.raised, LINE1),
         }
     }
 }

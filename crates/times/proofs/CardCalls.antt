@@ -1,6 +1,6 @@
 -- No time passes by the timers' bytes of the image in a card's call without 08.
 -- Assumes nothing.
-use Rattle.std.specs.Prelude.{Bool, false, true, List, ◌≡◌, refl, ℕ, ◌*◌, length}
+use Rattle.std.specs.Prelude.{Bool, false, true, List, ◌≡◌, refl, ℕ, ◌*◌, length, Err, Ok}
 use Rattle.std.proofs.Common.{ap, ◌∙◌, arith}
 use Rattle.card.specs.Call.{card_call, card_valid, executed_call}
 use Rattle.command.specs.Card.{reading_of, runs_in}
@@ -10,9 +10,7 @@ use Rattle.joined.specs.Calls.{call_keeps, card_executed}
 use Rattle.machine.specs.declared.State.{State}
 use Rattle.call.specs.Call.{Call, buffers, called}
 use Rattle.call.specs.Laws.{by_tests}
-use Rattle.call.specs.declared.Answer.TheVariants as answer
 use Rattle.refusal.specs.declared.Refusal.{Refusal}
-use Rattle.refusal.specs.declared.Validity.TheVariants.{Good, Refused}
 use Rattle.report.specs.Layout.{report_size}
 use Rattle.roundtrip.proofs.Ranged.{decoded}
 use Rattle.roundtrip.specs.Statement.{Bytes, SoundMachine}
@@ -31,7 +29,7 @@ module _ (k : Bool) (m b card rep : List ℕ) (memory : Bytes m) (image : Bytes 
   left = (card_executed m b card).state
 
   -- the same of the image that a call leaves which passed its tests
-  timer_left : card_valid (length m) b card (length rep) ≡ Good → timer_from (image_of left) (timer_at k) ≡ timer_of k left.timers
+  timer_left : card_valid (length m) b card (length rep) ≡ Ok tt → timer_from (image_of left) (timer_at k) ≡ timer_of k left.timers
   timer_left good =
       let kept : SoundMachine (length m) left (card_executed m b card).memory = call_keeps m b card rep good memory image bytes in
       timer_from_lem k (image_of left) ∙ ap (λ (s : State). timer_of k s.timers) (decoded left kept.sound.good kept.sound.ranged)
@@ -40,11 +38,11 @@ module _ (k : Bool) (m b card rep : List ℕ) (memory : Bytes m) (image : Bytes 
     abbrev Quiet : Call → Type 0
     Quiet c = NoTime (CallSets k m b card rep) (timer_from b (timer_at k)) (timer_from c.lent.image (timer_at k))
 
-    refused_quiet : (r : Refusal) → card_valid (length m) b card (length rep) ≡ Refused r → Quiet (called (answer.Refused r) (buffers m b rep))
+    refused_quiet : (r : Refusal) → card_valid (length m) b card (length rep) ≡ Err r → Quiet (called (Err r) (buffers m b rep))
     refused_quiet r e = unset (λ s. let z : ◌≡◌ {A = ℕ} 0 1 = cc s.0 in omega arith) (same _)
 
     done_quiet :
-        card_valid (length m) b card (length rep) ≡ Good
+        card_valid (length m) b card (length rep) ≡ Ok tt
         → Quiet (executed_call (report_size * runs_in (reading_of card).commands) (card_executed m b card) rep)
     done_quiet e =
         rw (timer_from_lem k b, timer_left e) (restated (λ s. (e, s)) (λ s. s.1) (card_no_time k (reading_of card).commands (state_from b) m without))

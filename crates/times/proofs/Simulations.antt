@@ -1,12 +1,10 @@
 -- No time passes in a simulation of the winder, nor by the timers' bytes of the image that it leaves.
 -- Assumes nothing.
-use Rattle.std.specs.Prelude.{Bool, List, ◌≡◌, refl, ℕ, suc, zero, length}
+use Rattle.std.specs.Prelude.{Bool, List, ◌≡◌, refl, ℕ, suc, zero, length, Err, Ok}
 use Rattle.std.proofs.Common.{ap, ◌∙◌, arith}
-use Rattle.call.specs.Call.{Called, called}
+use Rattle.call.specs.Call.{Answer, Called, called}
 use Rattle.call.specs.Laws.{by_tests}
 use Rattle.call.specs.Passed.{machine_good}
-use Rattle.call.specs.declared.Answer.{Answer}
-use Rattle.call.specs.declared.Answer.TheVariants as answer
 use Rattle.counting.proofs.Through.{through_counted}
 use Rattle.image.specs.Decode.{state_from, timer_from}
 use Rattle.image.specs.Image.{image_of}
@@ -14,7 +12,6 @@ use Rattle.machine.specs.Run.{through_of}
 use Rattle.machine.specs.declared.State.{State}
 use Rattle.refusal.specs.Laws.{then_good}
 use Rattle.refusal.specs.declared.Refusal.{Refusal}
-use Rattle.refusal.specs.declared.Validity.TheVariants.{Good, Refused}
 use Rattle.roundtrip.proofs.Ranged.{decoded}
 use Rattle.roundtrip.proofs.Runs.{sound_decoded}
 use Rattle.roundtrip.specs.Statement.{Bytes, Sound}
@@ -51,7 +48,7 @@ module _ (k : Bool) (m b : List ℕ) (s : Settings) (places : List ℕ) (memory 
   left = (ticks_of (winder_of s) s.ticks (start_of (state_from b)) m).stage.state
 
   -- the timer of the image that is left
-  timer_left : wind_valid (length m) b s (length places) ≡ Good → timer_from (image_of left) (timer_at k) ≡ timer_of k left.timers
+  timer_left : wind_valid (length m) b s (length places) ≡ Ok tt → timer_from (image_of left) (timer_at k) ≡ timer_of k left.timers
   timer_left e =
       let start : Sound (start_of (state_from b)).state =
       start_sound (state_from b) (sound_decoded b image (machine_good (length m) b (then_good _ _ e).0).image.fields) in
@@ -62,10 +59,10 @@ module _ (k : Bool) (m b : List ℕ) (s : Settings) (places : List ℕ) (memory 
   abbrev Quiet : Called Answer Lent → Type 0
   Quiet c = NoTime (WindSets k m b s places) (timer_from b (timer_at k)) (timer_from c.lent.image (timer_at k))
 
-  refused_quiet : (r : Refusal) → wind_valid (length m) b s (length places) ≡ Refused r → Quiet (called (answer.Refused r) (lent m b places))
+  refused_quiet : (r : Refusal) → wind_valid (length m) b s (length places) ≡ Err r → Quiet (called (Err r) (lent m b places))
   refused_quiet r e = unset (λ x. let z : ◌≡◌ {A = ℕ} 0 1 = cc x.0 in omega arith) (same _)
 
-  done_quiet : wind_valid (length m) b s (length places) ≡ Good → Quiet (simulated_call (winder_of s) s.ticks m b places)
+  done_quiet : wind_valid (length m) b s (length places) ≡ Ok tt → Quiet (simulated_call (winder_of s) s.ticks m b places)
   unfolding start_of
   done_quiet e =
       rw (timer_from_lem k b, timer_left e)

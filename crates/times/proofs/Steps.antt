@@ -81,8 +81,8 @@ enter_timers st pending number saved m = enter_by (λ (o : Outcome). o.state.tim
 commit_timers : (x : Plan) (st : State) (m : List ℕ) → (commit x st m).state.timers ≡ timers_by x st.timers
 unfolding commit after_operation
 commit_timers (Interrupt line) st m = enter_timers st _ _ _ m
-commit_timers (Violation why a) st m = enter_timers (noted why a st) _ _ _ m
-commit_timers (Trap number saved) st m = enter_timers st _ _ _ m
+commit_timers (Violation v) st m = enter_timers (noted v.fault v.address st) _ _ _ m
+commit_timers (Trap why saved) st m = enter_timers st _ _ _ m
 commit_timers (Perform op) st m = body_timers (with_pc st op.pc) op
 
 pub step_timers : StepTimers
@@ -112,8 +112,8 @@ module _ (first : ℕ) (t : Timer) (port : ℕ) where
 
 by_still : (k : Bool) (x : Plan) (ts : Timers) → sets_period k x ≡ false → Still (timer_of k ts) (timer_of k (timers_by x ts))
 by_still k (Interrupt line) ts e = same (timer_of k ts)
-by_still k (Violation why a) ts e = same (timer_of k ts)
-by_still k (Trap number saved) ts e = same (timer_of k ts)
+by_still k (Violation v) ts e = same (timer_of k ts)
+by_still k (Trap why saved) ts e = same (timer_of k ts)
 by_still k (Perform op) ts e =
     either (λ (x : Timers). Still (timer_of k ts) (timer_of k x)) (eqb op.code IN) (λ _. at_in k)
     (λ _. either (λ (x : Timers). Still (timer_of k ts) (timer_of k x)) (eqb op.code OUT) (λ o. at_out k (rw o at e)) (λ _. same (timer_of k ts)))
@@ -155,8 +155,8 @@ restated to from x =
 -- a plan that sets it
 by_set : (k : Bool) (x : Plan) (ts : Timers) → sets_period k x ≡ true → NoTime (Unit {0}) (timer_of k ts) (timer_of k (timers_by x ts))
 by_set k (Interrupt line) ts e = absurd (false≢true e)
-by_set k (Violation why a) ts e = absurd (false≢true e)
-by_set k (Trap number saved) ts e = absurd (false≢true e)
+by_set k (Violation v) ts e = absurd (false≢true e)
+by_set k (Trap why saved) ts e = absurd (false≢true e)
 by_set k (Perform op) ts e =
     let code : op.code ≡ OUT = eqb-true _ _ (this (eqb op.code OUT) _ e) in
     let port : op.port ≡ period_port k = eqb-true _ _ (rest (eqb op.code OUT) _ e) in

@@ -37,8 +37,8 @@ record User (st : State) : Type 0 where
 -- an instruction that is carried out needs no privilege
 abbrev Plain : Plan → Type 0
 Plain (Interrupt line) = Unit {0}
-Plain (Violation why a) = Unit {0}
-Plain (Trap number saved) = Unit {0}
+Plain (Violation v) = Unit {0}
+Plain (Trap why saved) = Unit {0}
 Plain (Perform op) = plain op.code ≡ true
 
 ends_plain : (code : ℕ) → plain code ≡ true → Ends Plain code
@@ -63,8 +63,8 @@ plan_plain st m u =
 
 by_plain : (x : Plan) (ts : Timers) → Plain x → timers_by x ts ≡ ts
 by_plain (Interrupt line) ts c = refl
-by_plain (Violation why a) ts c = refl
-by_plain (Trap number saved) ts c = refl
+by_plain (Violation v) ts c = refl
+by_plain (Trap why saved) ts c = refl
 by_plain (Perform op) ts c =
     rw (ne_eqb op.code IN (λ e. false≢true (rw e at c)), ne_eqb op.code OUT (λ e. false≢true (rw e at c)))
 
@@ -102,8 +102,8 @@ module _ (m : List ℕ) where
   commit_stays : (x : Plan) (st : State) → Plain x → User st → Stays (commit x st m)
   unfolding commit
   commit_stays (Interrupt line) st c u = enter_stays st _ _ _ u
-  commit_stays (Violation why a) st c u = enter_stays (noted why a st) _ _ _ (search u)
-  commit_stays (Trap number saved) st c u = enter_stays st _ _ _ u
+  commit_stays (Violation v) st c u = enter_stays (noted v.fault v.address st) _ _ _ (search u)
+  commit_stays (Trap why saved) st c u = enter_stays st _ _ _ u
   commit_stays (Perform op) st c u = record { stays = λ e. operation_stays st op u c }
 
 step_stays : (st : State) (m : List ℕ) → User st → entry (step_of st m).event ≡ false → User (step_of st m).state

@@ -28,8 +28,8 @@ module _ (lines : ℕ) where
   -- an interrupt is that of the lowest line
   abbrev Lowest : Plan → Type 0
   Lowest (Interrupt line) = line ≡ lowest_line lines
-  Lowest (Violation why a) = Unit {0}
-  Lowest (Trap number saved) = Unit {0}
+  Lowest (Violation v) = Unit {0}
+  Lowest (Trap why saved) = Unit {0}
   Lowest (Perform op) = Unit {0}
 
   ends_lowest : (code : ℕ) → Ends Lowest code
@@ -69,8 +69,8 @@ module _ (lines : ℕ) where
     commit_taken : (x : Plan) (st : State) → Lowest x → st.pending ≡ lines → Taken (commit x st m)
     unfolding commit after_operation
     commit_taken (Interrupt line) st l e = enter_taken st _ _ _ e (inr (rw (e, l)))
-    commit_taken (Violation why a) st l e = enter_taken (noted why a st) _ _ _ e (inl e)
-    commit_taken (Trap number saved) st l e = enter_taken st _ _ _ e (inl e)
+    commit_taken (Violation v) st l e = enter_taken (noted v.fault v.address st) _ _ _ e (inl e)
+    commit_taken (Trap why saved) st l e = enter_taken st _ _ _ e (inl e)
     commit_taken (Perform op) st l e = record { taken = inl (body_lines (with_pc st op.pc) op ∙ e) }
 
 step_taken : (st : State) (m : List ℕ) → Taken st.pending (step_of st m)

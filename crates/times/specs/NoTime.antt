@@ -1,7 +1,7 @@
 -- Time passes only by command 08, whatever a program does at the ports: of every run, of every card without 08, and of every simulation of the
 -- winder.
 -- Assumes nothing.
-use Rattle.std.specs.Prelude.{Bool, false, true, List, [], ◌∷◌, ◌⊎◌, ◌≡◌, ℕ, suc, zero, ◌<◌, length}
+use Rattle.std.specs.Prelude.{Bool, false, true, List, [], ◌∷◌, ◌⊎◌, ◌≡◌, ℕ, suc, zero, ◌<◌, length, Ok}
 use Rattle.card.specs.Call.{card_call, card_valid}
 use Rattle.card.specs.Effect.{effect_of, execute_of}
 use Rattle.command.specs.Card.{reading_of}
@@ -11,7 +11,6 @@ use Rattle.image.specs.Decode.{state_from, timer_from}
 use Rattle.layout.specs.Layout.{timer0_at, timer1_at}
 use Rattle.machine.specs.Run.{run_of, through_of}
 use Rattle.machine.specs.declared.State.{State}
-use Rattle.refusal.specs.declared.Validity.TheVariants.{Good}
 use Rattle.roundtrip.specs.Statement.{Bytes}
 use Rattle.timer.specs.declared.Timer.{Timer}
 use Rattle.winder.specs.Call.{wind_call, wind_valid}
@@ -81,7 +80,7 @@ timer_at true = timer1_at
 -- a call is not refused, and one of its runs sets the period of a timer
 abbrev pub CallSets : Bool → List ℕ → List ℕ → List ℕ → List ℕ → Type 0
 CallSets k m b card rep =
-    (card_valid (length m) b card (length rep) ≡ Good) × CardSets k (reading_of card).commands (state_from b) m
+    (card_valid (length m) b card (length rep) ≡ Ok tt) × CardSets k (reading_of card).commands (state_from b) m
 
 -- `call_no_time`: so by those bytes in a card's call without 08, refused or not
 abbrev pub CallNoTime : Type 0
@@ -107,7 +106,7 @@ TicksNoTime =
 -- a simulation is not refused, and one of its steps sets the period of a timer
 abbrev pub WindSets : Bool → List ℕ → List ℕ → Settings → List ℕ → Type 0
 WindSets k m b s places =
-    (wind_valid (length m) b s (length places) ≡ Good) × TicksSet k (winder_of s) s.ticks (start_of (state_from b)) m
+    (wind_valid (length m) b s (length places) ≡ Ok tt) × TicksSet k (winder_of s) s.ticks (start_of (state_from b)) m
 
 -- `wind_no_time`: so by the timers' bytes in a simulation, refused or not
 abbrev pub WindNoTime : Type 0

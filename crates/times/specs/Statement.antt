@@ -40,8 +40,8 @@ pub record Still (t t' : Timer) : Type 0 where
 -- what a plan does to the timers, carried out: IN and OUT go to their ports, everything else leaves them
 abbrev pub timers_by : Plan → Timers → Timers
 timers_by (Interrupt line) ts = ts
-timers_by (Violation why a) ts = ts
-timers_by (Trap number saved) ts = ts
+timers_by (Violation v) ts = ts
+timers_by (Trap why saved) ts = ts
 timers_by (Perform op) ts =
     cond (eqb op.code IN) (timers_after_in ts op.port) (cond (eqb op.code OUT) (timers_after_out ts op.port op.held) ts)
 
@@ -52,8 +52,8 @@ StepTimers = (st : State) (m : List ℕ) → (step_of st m).state.timers ≡ tim
 -- a plan is an OUT to the port that sets a timer's period
 abbrev pub sets_period : Bool → Plan → Bool
 sets_period k (Interrupt line) = false
-sets_period k (Violation why a) = false
-sets_period k (Trap number saved) = false
+sets_period k (Violation v) = false
+sets_period k (Trap why saved) = false
 sets_period k (Perform op) = eqb op.code OUT && eqb op.port (period_port k)
 
 -- so of step number i, the first being number 0

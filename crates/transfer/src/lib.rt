@@ -1,12 +1,12 @@
 // The accesses of an instruction: the fetch of its words, and its data access.
 #![tactic(auto)]
 
-mod data;
+mod accesses;
 mod stores;
 
-pub use data::{fetch, transfer_for};
+pub use accesses::{fetch, transfer_for};
 use memory::Store;
-use mmu::Fault;
+use mmu::Violation;
 pub use stores::{store_need, value_stored};
 use word::Width;
 
@@ -19,17 +19,20 @@ pub enum Need {
     Write(Width, u16),
 }
 
-// The data access done: the operand's value, the second word of two, and what is to be stored; or why the access to a logical address is not
-// granted.
+// The data access done.
 #[derive(Clone, Copy)]
-pub enum Transfer {
-    Done(u16, u16, Store),
-    Fails(Fault, u16),
+pub struct Data {
+    // The operand's value.
+    pub source: u16,
+    // The second word of two, else 0, which nothing reads.
+    pub second: u16,
+    pub store: Option<Store>,
 }
 
-// A data access, and the TLB with its marks.
+// A data access, and the TLB with its marks. One access has the like, `Accessed`: each is named
+// for what it is of.
 #[derive(Clone, Copy)]
 pub struct Transferred {
-    pub transfer: Transfer,
+    pub transfer: Result<Data, Violation>,
     pub tlb: [u32; 8],
 }

@@ -12,15 +12,8 @@ fn width_of(operand: Operand) -> Width
     ensures { result ≡ def.width_of operand }
 {
     match operand {
-        Operand::Direct(_) => Width::Word,
-        Operand::Indexed(_, _) => Width::Word,
-        Operand::Immediate(_) => Width::Word,
-        Operand::Frame(_) => Width::Word,
-        Operand::Register(_) => Width::Word,
-        Operand::Short(_) => Width::Word,
-        Operand::Indirect(_) => Width::Word,
         Operand::ByteIndirect(_) => Width::Byte,
-        Operand::Nothing => Width::Word,
+        _ => Width::Word,
     }
 }
 
@@ -32,6 +25,7 @@ pub fn store_need(a: u16, operand: Operand) -> Need
 }
 
 // What an instruction stores.
+#[tactic(auto, unfolding(crate::specs::Need::value_stored))]
 pub fn value_stored(code: u8, held: u16, following: u16) -> u16
     ensures { result ≡ def.value_stored code held following }
 {

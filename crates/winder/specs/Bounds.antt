@@ -1,16 +1,13 @@
 -- Settings within their bounds: they are those that are taken.
 -- Assumes nothing.
-use Rattle.std.specs.Prelude.{Bool, true, ◌&&◌, ◌≡◌, ℕ, ◌*◌, ◌/◌, ◌≤◌, leb}
+use Rattle.std.specs.Prelude.{Bool, ◌&&◌, ◌≡◌, ℕ, ◌*◌, ◌/◌, ◌≤◌, leb, Err, Ok, Result}
 use Rattle.std.proofs.Common.{arith, le-leb, leb-true}
-use Rattle.refusal.specs.Laws.{test_good}
-use Rattle.refusal.specs.declared.Validity.TheVariants.{Good}
+use Rattle.refusal.specs.Laws.{Range, between_range, range_between, test_good}
+use Rattle.refusal.specs.Refusal.{Validity, between}
+use Rattle.refusal.specs.declared.Refusal.{Refusal}
 use Rattle.word.specs.Cases.{rest, this}
-use Rattle.winder.specs.Call.{between, settings_good, settings_valid}
+use Rattle.winder.specs.Call.{settings_good, settings_valid}
 use Rattle.winder.specs.declared.Settings.{Settings}
-
-pub record Range (low high x : ℕ) : Type 0 where
-  pub least : low ≤ x
-  pub most : x ≤ high
 
 -- each number is within its bounds
 pub record InBounds (s : Settings) : Type 0 where
@@ -20,11 +17,12 @@ pub record InBounds (s : Settings) : Type 0 where
   pub ticks : Range 1 65535 s.ticks
   pub steps : Range 1 65535 s.steps
 
-between_range : (low high x : ℕ) → between low high x ≡ true → Range low high x
-between_range low high x e =
-    record { least = leb-true low x (this (leb low x) (leb x high) e); most = leb-true x high (rest (leb low x) (leb x high) e) }
+-- what a test says that gives something where it is passed
+abbrev pub verdict : {A : Type 0} → Result A Refusal → Validity
+verdict (Err r) = Err r
+verdict (Ok x) = Ok tt
 
-pub settings_good_lem : (s : Settings) (places : ℕ) → settings_valid s places ≡ Good → InBounds s × (2 * s.ticks ≤ places)
+pub settings_good_lem : (s : Settings) (places : ℕ) → settings_valid s places ≡ Ok tt → InBounds s × (2 * s.ticks ≤ places)
 unfolding settings_valid settings_good
 settings_good_lem s places e =
     let turns : Bool = between 1 999 s.turns in
@@ -33,7 +31,7 @@ settings_good_lem s places e =
     let ticks : Bool = between 1 65535 s.ticks in
     let steps : Bool = between 1 65535 s.steps in
     let room : Bool = leb s.ticks (places / 2) in
-    let all = (test_good (settings_good s places) Good _ e).0 in
+    let all = (test_good (settings_good s places) (Ok tt) _ e).0 in
     let but1 = rest turns (notches && (rundown && (ticks && (steps && room)))) all in
     let but2 = rest notches (rundown && (ticks && (steps && room))) but1 in
     let but3 = rest rundown (ticks && (steps && room)) but2 in
@@ -49,10 +47,7 @@ settings_good_lem s places e =
       omega arith,
     )
 
-range_between : (low high x : ℕ) → Range low high x → between low high x ≡ true
-range_between low high x r = rw (le-leb low x r.least, le-leb x high r.most)
-
-pub settings_pass : (s : Settings) (places : ℕ) → InBounds s → 2 * s.ticks ≤ places → settings_valid s places ≡ Good
+pub settings_pass : (s : Settings) (places : ℕ) → InBounds s → 2 * s.ticks ≤ places → settings_valid s places ≡ Ok tt
 unfolding settings_valid settings_good
 settings_pass s places b h =
     rw (

@@ -1,17 +1,13 @@
 -- What a simulation answers and leaves of what it is lent. Document 02, 5/14.
 -- Assumes nothing.
-use Rattle.std.specs.Prelude.{Bool, cond, ◌&&◌, List, ◌++◌, ℕ, ◌*◌, ◌/◌, leb, drop, length}
-use Rattle.call.specs.Call.{Called, called, unless_refused}
+use Rattle.std.specs.Prelude.{Bool, ◌&&◌, List, ◌++◌, ℕ, ◌*◌, ◌/◌, leb, drop, length, Ok}
+use Rattle.call.specs.Call.{Answer, Called, called, unless_refused}
 use Rattle.call.specs.Valid.{machine_valid}
-use Rattle.call.specs.declared.Answer.{Answer}
-use Rattle.call.specs.declared.Answer.TheVariants.{Done}
 use Rattle.endian.specs.Bytes.{word_bytes}
 use Rattle.image.specs.Decode.{state_from}
 use Rattle.image.specs.Image.{image_of}
-use Rattle.refusal.specs.Refusal.{and_then, refused}
+use Rattle.refusal.specs.Refusal.{Validity, and_then, between, good_if}
 use Rattle.refusal.specs.declared.Cause.TheVariants.{WinderSetting}
-use Rattle.refusal.specs.declared.Validity.{Validity}
-use Rattle.refusal.specs.declared.Validity.TheVariants.{Good}
 use Rattle.winder.specs.Simulation.{Simulated, Winder, standings, start_of, ticks_of, winder_of}
 use Rattle.winder.specs.declared.Settings.{Settings}
 
@@ -29,10 +25,6 @@ abbrev pub settings : ℕ → ℕ → ℕ → ℕ → ℕ → Settings
 settings turns notches rundown ticks steps =
     record { turns = turns; notches = notches; rundown = rundown; ticks = ticks; steps = steps }
 
--- from low to high, both included
-abbrev pub between : ℕ → ℕ → ℕ → Bool
-between low high x = leb low x && leb x high
-
 -- "Maximum turns outside 1-999, notches per turn or r outside 1-64, ticks or steps outside 1-65,535, or a result buffer with fewer places
 -- than ticks": a place is two bytes
 unfoldable pub settings_good : Settings → ℕ → Bool
@@ -46,7 +38,7 @@ settings_good s places =
 
 -- "are refused with 9"
 unfoldable pub settings_valid : Settings → ℕ → Validity
-settings_valid s places = cond (settings_good s places) Good (refused WinderSetting 0)
+settings_valid s places = good_if (settings_good s places) WinderSetting
 
 -- "before anything runs and after the old checks": refusals 1, 2, 3 and 9
 abbrev pub wind_valid : ℕ → List ℕ → Settings → ℕ → Validity
@@ -57,7 +49,7 @@ wind_valid memory b s places = and_then (machine_valid memory b) (settings_valid
 abbrev pub simulated_call : Winder → ℕ → List ℕ → List ℕ → List ℕ → Called Answer Lent
 simulated_call w ticks m b places =
     let x : Simulated = ticks_of w ticks (start_of (state_from b)) m in
-    called (Done x.stage.over)
+    called (Ok x.stage.over)
     (lent x.memory (image_of x.stage.state) (word_bytes (standings w ticks (start_of (state_from b)) m) ++ drop (2 * ticks) places))
 
 -- a simulation

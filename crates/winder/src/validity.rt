@@ -1,44 +1,52 @@
 // The tests of a simulation.
-ghost use Rattle.std.specs.Prelude.{◌≡◌};
+ghost use Rattle.std.specs.Prelude.{◌≡◌, ◌*◌, ◌≤◌, IfOk};
+ghost use Rattle.winder.specs.Bounds.{InBounds, verdict};
 ghost use Rattle.winder.specs.Call as def;
 
 use crate::Settings;
-use refusal::{Cause, Validity, and_then, refused};
+use refusal::{Cause, Refusal, between, good_if};
 
-// Whether x is from low to high, both included.
-fn between(low: u32, high: u32, x: u32) -> bool
-    ensures { result ≡ def.between low high x }
-{
-    (low <= x) & (x <= high)
+// Settings within their bounds: the test alone makes them.
+#[derive(Clone, Copy)]
+pub struct Tried {
+    pub settings: Settings,
+    ghost in_bounds: { InBounds settings },
 }
 
+#[tactic(auto, unfolding(crate::specs::Call::settings_good))]
 fn good_settings(settings: Settings, places: usize) -> bool
     ensures { result ≡ def.settings_good settings places }
 {
     between(1, 999, settings.turns)
-        & (between(1, 64, settings.notches)
-            & (between(1, 64, settings.rundown)
-                & (between(1, 65535, settings.ticks)
-                    & (between(1, 65535, settings.steps)
-                        & (settings.ticks as usize <= places / 2)))))
+        && between(1, 64, settings.notches)
+        && between(1, 64, settings.rundown)
+        && between(1, 65535, settings.ticks)
+        && between(1, 65535, settings.steps)
+        && settings.ticks as usize <= places / 2
 }
 
 // Refusal 9.
-fn validate_settings(settings: Settings, places: usize) -> Validity
-    ensures { result ≡ def.settings_valid settings places }
+#[tactic(auto, unfolding(crate::specs::Call::settings_valid))]
+fn validate_settings(settings: Settings, places: usize) -> Result<Tried, Refusal>
+    ensures valid { verdict result ≡ def.settings_valid settings places }
+    ensures same { IfOk result (λ t. t.settings ≡ settings) }
+    ensures room { IfOk result (λ t. 2 * settings.ticks ≤ places) }
 {
-    if good_settings(settings, places) {
-        Validity::Good
-    } else {
-        refused(Cause::WinderSetting)
-    }
+    good_if(good_settings(settings, places), Cause::WinderSetting)?;
+    Ok(Tried { settings })
 }
 
 // Refusals 1, 2, 3 and 9.
-pub fn validate(memory: usize, image: &[u8], settings: Settings, places: usize) -> Validity
-    ensures { result ≡ def.wind_valid memory image.now settings places }
+pub fn validate(
+    memory: usize,
+    image: &[u8],
+    settings: Settings,
+    places: usize,
+) -> Result<Tried, Refusal>
+    ensures valid { verdict result ≡ def.wind_valid memory image.now settings places }
+    ensures same { IfOk result (λ t. t.settings ≡ settings) }
+    ensures room { IfOk result (λ t. 2 * settings.ticks ≤ places) }
 {
-    let machine = call::validate_machine(memory, image);
-    let numbers = validate_settings(settings, places);
-    and_then(machine, numbers)
+    call::validate_machine(memory, image)?;
+    validate_settings(settings, places)
 }

@@ -39,8 +39,8 @@ enter_input st pending number saved m = enter_by (λ (o : Outcome). input_of o.s
 commit_input : (x : Plan) (st : State) (m : List ℕ) → input_of (commit x st m).state ≡ input_of st
 unfolding commit after_operation
 commit_input (Interrupt line) st m = enter_input st _ _ _ m
-commit_input (Violation why a) st m = enter_input (noted why a st) _ _ _ m
-commit_input (Trap number saved) st m = enter_input st _ _ _ m
+commit_input (Violation v) st m = enter_input (noted v.fault v.address st) _ _ _ m
+commit_input (Trap why saved) st m = enter_input st _ _ _ m
 commit_input (Perform op) st m = body_input (with_pc st op.pc) op
 
 pub input_still : InputStill

@@ -1,12 +1,10 @@
 -- What the winder promises. Document 02, 5/14.
 -- Assumes nothing.
-use Rattle.std.specs.Prelude.{false, List, ◌≡◌, suc, zero, ℕ, ◌%◌, ◌*◌, ◌+◌, ◌-◌, ◌/◌, ◌<◌, ◌≤◌, drop, get_or, length}
+use Rattle.std.specs.Prelude.{false, List, ◌≡◌, suc, zero, ℕ, ◌%◌, ◌*◌, ◌+◌, ◌-◌, ◌/◌, ◌<◌, ◌≤◌, drop, get_or, length, Err, Ok}
 use mir.Val.{bool_byte}
 use Rattle.barrel.specs.Barrel.{reached, taken_at, wound_by}
-use Rattle.call.specs.Call.{Called, called, given_by}
+use Rattle.call.specs.Call.{Answer, Called, called, given_by}
 use Rattle.call.specs.Valid.{machine_valid}
-use Rattle.call.specs.declared.Answer.{Answer}
-use Rattle.call.specs.declared.Answer.TheVariants as answer
 use Rattle.endian.specs.Bytes.{byte_from, word_from}
 use Rattle.image.specs.Decode.{state_from}
 use Rattle.layout.specs.Layout.{input_at}
@@ -15,7 +13,6 @@ use Rattle.machine.specs.Step.{step_of}
 use Rattle.machine.specs.declared.State.{State}
 use Rattle.refusal.specs.declared.Cause.TheVariants.{WinderSetting}
 use Rattle.refusal.specs.declared.Refusal.{Refusal}
-use Rattle.refusal.specs.declared.Validity.TheVariants.{Good, Refused}
 use Rattle.roundtrip.specs.Statement.{Bytes}
 use Rattle.winder.specs.Call.{Lent, lent, settings_good, wind_call, wind_valid}
 use Rattle.winder.specs.Simulation.{Simulated, Winder, standings, start_of, tick_of, ticks_of, winder_of}
@@ -112,7 +109,7 @@ pub record CallLeft (s : Settings) (m b places : List ℕ) (c : Called Answer Le
   -- at most the number of the tick
   pub small : (k : ℕ) → k < s.ticks → word_from c.lent.places (2 * k) ≤ k + 1
   -- the answer is the first tick over, by the places
-  pub answer : c.answer ≡ answer.Done (given_by c.answer)
+  pub answer : c.answer ≡ Ok (given_by c.answer)
   pub first : First (s.turns * s.notches) s.ticks (λ k. word_from c.lent.places (2 * k)) (given_by c.answer)
   -- the balance, by the places
   pub balance :
@@ -125,7 +122,7 @@ pub record CallLeft (s : Settings) (m b places : List ℕ) (c : Called Answer Le
   -- memory and image are bytes, and pass the tests of the next call
   pub memory_bytes : Bytes c.lent.memory
   pub image_bytes : Bytes c.lent.image
-  pub again : machine_valid (length c.lent.memory) c.lent.image ≡ Good
+  pub again : machine_valid (length c.lent.memory) c.lent.image ≡ Ok tt
   -- "The image after the last tick has the bit by the same rule"; "Input bits 1-7 are kept"
   pub lower :
       byte_from c.lent.image input_at % 2 ≡ bool_byte (reached s.turns s.notches (standing_in c.lent.places s.ticks))
@@ -133,17 +130,17 @@ pub record CallLeft (s : Settings) (m b places : List ℕ) (c : Called Answer Le
 
 abbrev pub CallsLeft : Type 0
 CallsLeft =
-    (s : Settings) (m b places : List ℕ) → Bytes m → Bytes b → wind_valid (length m) b s (length places) ≡ Good
+    (s : Settings) (m b places : List ℕ) → Bytes m → Bytes b → wind_valid (length m) b s (length places) ≡ Ok tt
     → CallLeft s m b places (wind_call m b s places)
 
 -- `refused_nine`: "refused with 9 before anything runs and after the old checks", with P=0 and every lent buffer as it was; `refused_before`: the
 -- old checks refuse first, whatever the settings are
 abbrev pub RefusedNine : Type 0
 RefusedNine =
-    (s : Settings) (m b places : List ℕ) → machine_valid (length m) b ≡ Good → settings_good s (length places) ≡ false
-    → wind_call m b s places ≡ called (answer.Refused (record { cause = WinderSetting; place = 0 })) (lent m b places)
+    (s : Settings) (m b places : List ℕ) → machine_valid (length m) b ≡ Ok tt → settings_good s (length places) ≡ false
+    → wind_call m b s places ≡ called (Err (record { cause = WinderSetting; place = 0 })) (lent m b places)
 
 abbrev pub RefusedBefore : Type 0
 RefusedBefore =
-    (s : Settings) (m b places : List ℕ) (r : Refusal) → machine_valid (length m) b ≡ Refused r
-    → wind_call m b s places ≡ called (answer.Refused r) (lent m b places)
+    (s : Settings) (m b places : List ℕ) (r : Refusal) → machine_valid (length m) b ≡ Err r
+    → wind_call m b s places ≡ called (Err r) (lent m b places)

@@ -1,4 +1,4 @@
-// Words and four-bit fields as signed numbers.
+// Words and four-bit fields as signed numbers, by arithmetic alone: `cast_signed` and `cast_unsigned` of std branch by the sign.
 ghost use Rattle.std.specs.Prelude.{◌≡◌};
 ghost use Rattle.word.specs.Signed.{signed, signed4, word};
 
@@ -18,6 +18,7 @@ pub fn to_word(x: i16) -> u16
 }
 
 // The lowest four bits of `field` as a signed number, -8 to 7: 16 less where the uppermost of them is set.
+#[tactic(auto, unfolding(crate::specs::Signed::signed4))]
 pub fn sign_extend(field: u16) -> i16
     ensures { result ≡ signed4 field }
 {

@@ -5,11 +5,11 @@ ghost use Rattle.word.specs.Word as word;
 pub fn plus(a: u16, b: u16) -> u16
     ensures { result ≡ word.plus a b }
 {
-    std::num::wrapping_add_u16(a, b)
+    a.wrapping_add(b)
 }
 
 pub fn minus(a: u16, b: u16) -> u16
     ensures { result ≡ word.minus a b }
 {
-    std::num::wrapping_sub_u16(a, b)
+    a.wrapping_sub(b)
 }

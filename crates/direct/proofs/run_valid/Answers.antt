@@ -9,10 +9,6 @@ use Rattle.report.specs.Layout.{report_size}
 use Rattle.report.specs.Report.{report_of}
 use Rattle.direct.proofs.run_valid.Goals as goal
 
-pub write_report-requires : goal.write_report-requires
-write_report-requires c =
-    c.requires.2
-
 pub returns : goal.returns
 returns c =
     let start = c.args in
@@ -21,8 +17,7 @@ returns c =
       memory = c.run-finished.ensures.memory;
       image = c.write_image.ensures ∙ ap (λ (f : Finished). image_of f.state) answer;
       report =
-          c.write_report.ensures
-          ∙ rw c.word.ensures
-          (ap (λ (f : Finished). report_of f.ending f.state.pc (flag_of f.state) f.steps f.states ++ drop report_size start.report.now)
-          answer);
+          c.write_run.ensures
+          ∙ ap (λ (f : Finished). report_of f.ending f.state.pc (flag_of f.state) f.steps f.states ++ drop report_size start.report.now)
+          answer;
     })

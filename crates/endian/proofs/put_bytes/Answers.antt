@@ -1,15 +1,11 @@
 -- `endian::put_bytes` meets its contract.
-use mathlib.Core.Path.{refl}
 use native.Mathlib.Omega.{arith}
-use Rattle.endian.specs.Laws.{bytes_laid, stored_all, stored_more, stored_none}
+use mathlib.Core.List.{append_assoc}
+use Rattle.std.proofs.lemmas.Grind.{common_steps}
+use Rattle.std.proofs.lemmas.List.Edits.{sets-eq}
 use Rattle.endian.proofs.put_bytes.Goals as goal
 
-pub loop-k-init : goal.loop-k-init
-loop-k-init c = stored_none bytes_laid
-
-pub loop-k-preserved : goal.loop-k-preserved
-loop-k-preserved c =
-    stored_more bytes_laid c.loop-k.invariant c.loop-k-test.true refl (omega arith)
-
 pub returns : goal.returns
-returns c = stored_all bytes_laid c.loop-k.invariant c.loop-k-test.false
+returns c =
+    let e = sets-eq c.args.from.now c.args.bytes.now c.args.at c.requires in
+    rw (c.copy_from_slice.ensures.after, e, append_assoc) (grind (arith, common_steps))

@@ -1,12 +1,8 @@
-use Prim.Native.Nat.{◌-◌, ◌/◌}
-use lib.ListN.{length}
-use Rattle.report.specs.Layout.{report_size}
-use Rattle.listing.specs.Listing.{lines_of}
-use Rattle.text.specs.Wrote.{Writing}
+use Rattle.std.proofs.Common.{take}
+use Rattle.std.specs.List.{flat_map}
+use Rattle.listing.specs.Listing.{line_of}
+use Rattle.text.specs.Writer.{Wrote}
 use Rattle.listing.proofs.put_lines.Given as goal
 
-abbrev pub invariant-loop-i : goal.invariant-loop-i
-invariant-loop-i l = Writing l.initial.text l.text l.from l.at (lines_of l.i l.report) l.i (length l.report / report_size)
-
-abbrev pub decreases-loop-i : goal.decreases-loop-i
-decreases-loop-i l = length l.report / report_size - l.i
+abbrev pub invariant-loop-run : goal.invariant-loop-run
+invariant-loop-run l = Wrote l.initial.to l.to (flat_map line_of (take l.run-index l.runs))

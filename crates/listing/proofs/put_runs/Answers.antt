@@ -1,9 +1,9 @@
 -- `listing::put_runs` meets its contract.
+use Rattle.std.proofs.Common.{rules}
 use Rattle.listing.specs.Listing.{runs_text}
-use Rattle.text.specs.Wrote.{then}
+use Rattle.text.specs.Writer.{both}
 use Rattle.listing.proofs.put_runs.Goals as goal
 
 pub returns : goal.returns
 unfolding runs_text
-returns c =
-    then c.put_text-at.ensures (then c.put_decimal-at.ensures c.put.ensures)
+returns c = search (rules, both)

@@ -11,4 +11,4 @@ returns-then-card-le-CARD c = rw (le-leb _ _ c.if-card-le-CARD.true) c.count_com
 
 pub returns-else-card-le-CARD : goal.returns-else-card-le-CARD
 unfolding reading_of runs_in
-returns-else-card-le-CARD c = rw (lt-leb _ _ c.if-card-le-CARD.false) (record { value = refl; bound = omega arith })
+returns-else-card-le-CARD c = rw (lt-leb _ _ c.if-card-le-CARD.false, c.refused.ensures) (record { value = refl; bound = omega arith })

@@ -1,28 +1,21 @@
 -- `tally::count_commands` meets its contract.
-use native.Mathlib.Omega.{arith}
-use Rattle.command.specs.Laws.{one_at_most}
-use Rattle.tally.proofs.Counting.{ended, goes_on, start}
-use Rattle.command.specs.Turns.{at_bad, at_end, at_next, falls}
+use mathlib.Core.Path.{◌∙◌}
+use Rattle.tally.proofs.Counting.{ended, goes_on}
 use Rattle.tally.proofs.count_commands.Goals as goal
 
-pub loop-refusal-init : goal.loop-refusal-init
-loop-refusal-init c = start _
+pub loop-command-preserved : goal.loop-command-preserved
+loop-command-preserved c =
+    let so_far = c.loop-command.invariant in
+    let gave = rw c.in-Ok.is at c.in-Some.ensures.steps in
+    record { card = gave.0 ∙ so_far.card; counting = goes_on so_far.counting (rw so_far.card at gave.1) c.is_run-runs.ensures }
 
-pub returns-in-End : goal.returns-in-End
-returns-in-End c =
-    let e = ended c.loop-refusal.invariant c.requires (at_end _ _ c.parse.ensures c.in-End.is) in
-    record { value = e.0; bound = e.1 }
+pub returns-in-Err-clause-value : goal.returns-in-Err-clause-value
+returns-in-Err-clause-value c =
+    let so_far = c.loop-command.invariant in
+    let gave = rw c.in-Err.is at c.in-Some.ensures.steps in
+    (ended so_far.counting c.requires (rw so_far.card at gave.1)).0
 
-pub returns-in-Bad : goal.returns-in-Bad
-returns-in-Bad c =
-    let e = ended c.loop-refusal.invariant c.requires (at_bad _ _ c.parse.ensures c.in-Bad.is) in
-    record { value = e.0; bound = e.1 }
-
-pub overflow_add-runs : goal.overflow_add-runs
-overflow_add-runs c = omega (arith, one_at_most c.in-Next.command)
-
-pub loop-refusal-smaller : goal.loop-refusal-smaller
-loop-refusal-smaller c = falls (at_next _ _ c.parse.ensures c.in-Next.is) c.loop-refusal.invariant.within
-
-pub loop-refusal-preserved : goal.loop-refusal-preserved
-loop-refusal-preserved c = goes_on c.loop-refusal.invariant (at_next _ _ c.parse.ensures c.in-Next.is) c.is_run-runs.ensures
+pub returns-clause-value : goal.returns-clause-value
+returns-clause-value c =
+    let so_far = c.loop-command.invariant in
+    (ended so_far.counting c.requires (rw so_far.card at c.in-None.ensures.steps.1)).0

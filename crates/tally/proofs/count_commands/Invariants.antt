@@ -1,10 +1,6 @@
-use Prim.Native.Nat.{◌-◌}
-use lib.ListN.{length}
+use mathlib.Core.Path.{◌≡◌}
 use Rattle.tally.proofs.Counting.{Counting}
 use Rattle.tally.proofs.count_commands.Given as goal
 
-abbrev pub invariant-loop-refusal : goal.invariant-loop-refusal
-invariant-loop-refusal l = Counting l.card l.at l.runs
-
-abbrev pub decreases-loop-refusal : goal.decreases-loop-refusal
-decreases-loop-refusal l = length l.card - l.at
+abbrev pub invariant-loop-command : goal.invariant-loop-command
+invariant-loop-command l = record { card : l.command-iterator.card.now ≡ l.card; counting : Counting l.card l.command-iterator.at l.runs }

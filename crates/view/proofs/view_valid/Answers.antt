@@ -3,5 +3,4 @@ use Rattle.view.specs.Laws.{no_step}
 use Rattle.view.proofs.view_valid.Goals as goal
 
 pub returns : goal.returns
-returns c m =
-    rw (no_step, ← c.read_image-state.ensures, ← c.stopped_ending.ensures, ← c.word.ensures) c.write_report.ensures
+returns c m = rw (no_step, ← c.read_image-state.ensures, ← c.into.ensures) (rw c.finish.ensures at c.write_run.ensures)

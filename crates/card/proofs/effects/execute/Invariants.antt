@@ -1,11 +1,8 @@
-use Prim.Native.Nat.{◌-◌}
-use lib.ListN.{length}
 use Rattle.card.proofs.Executes.{Executing}
+use Rattle.card.specs.Inside.{commands_of}
 use Rattle.card.proofs.effects.execute.Given as goal
 
-abbrev pub invariant-loop-state : goal.invariant-loop-state
-invariant-loop-state l =
-    Executing l.card l.initial.state l.initial.memory l.initial.report l.at l.filled l.state l.memory l.report
-
-abbrev pub decreases-loop-state : goal.decreases-loop-state
-decreases-loop-state l = length l.card - l.at
+abbrev pub invariant-loop-command : goal.invariant-loop-command
+invariant-loop-command l =
+    Executing (commands_of l.commands) l.initial.progress.state l.initial.memory l.initial.report (commands_of l.command-iterator)
+    l.progress.filled l.progress.state l.memory l.report

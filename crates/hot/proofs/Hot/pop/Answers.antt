@@ -1,6 +1,7 @@
 -- `hot::Hot::pop` meets its contract.
 use mathlib.Core.Path.{refl}
 use native.Mathlib.Omega.{arith}
+use borrow.Author.Rules.{rules}
 use Rattle.hot.specs.Moves.{pop_tells}
 use Rattle.hot.specs.Tells.{stop}
 use Rattle.hot.proofs.Hot.pop.Goals as goal
@@ -14,6 +15,6 @@ returns-then-x-ge-NONE c = stop c.stop-then-x-ge-NONE.ensures refl refl
 pub returns : goal.returns
 returns c =
     let a = c.args in
-    rw c.to.ensures (pop_tells a.map.now a.regs.now c.requires.0 a.mem.now a.self a.w c.requires.2 c.plus-2.result
-    c.plus-2.ensures c.requires.3 (omega (arith, c.if-d-ge-USP.false))
+    rw c.to.ensures (pop_tells a.map.now a.regs.now (search (rules, c.well_formed)) a.mem.now a.self a.w c.requires.0 c.plus-2.result
+    c.plus-2.ensures c.requires.1 (omega (arith, c.if-d-ge-USP.false))
     c.plus.result c.top-x.result c.plus.ensures (c.top-x.ensures c.if-x-ge-NONE.false))

@@ -1,5 +1,6 @@
 -- `hot::Hot::push` meets its contract.
 use mathlib.Core.Path.{refl}
+use borrow.Author.Rules.{rules}
 use Rattle.pages.specs.Accesses.{not_wrote, wrote}
 use Rattle.source.specs.Fields.{register_read}
 use Rattle.hot.specs.Moves.{push_tells}
@@ -16,8 +17,8 @@ returns-then-write c =
     let minus' = c.minus-sp in
     let r = register_read c.register-v.ensures
     c.if-v-ge-NONE.false in
-    rw c.to.ensures (push_tells a.map.now a.regs.now pre'.0 a.mem.now a.self a.w pre'.2 c.plus.result
-    c.plus.ensures pre'.3 r.low minus'.result minus'.ensures
+    rw c.to.ensures (push_tells a.map.now a.regs.now (search (rules, c.well_formed)) a.mem.now a.self a.w pre'.0 c.plus.result
+    c.plus.ensures pre'.1 r.low minus'.result minus'.ensures
     (rw r.value at (wrote c.write.ensures c.if-write.true)))
 
 pub returns : goal.returns

@@ -1,6 +1,7 @@
 -- `hot::Hot::ret` meets its contract.
 use mathlib.Core.Path.{refl}
 use native.Mathlib.Omega.{arith}
+use borrow.Author.Rules.{rules}
 use Rattle.hot.specs.Moves.{ret_tells}
 use Rattle.hot.specs.Tells.{stop}
 use Rattle.hot.proofs.Hot.ret.Goals as goal
@@ -15,6 +16,6 @@ pub returns : goal.returns
 returns c =
     let a = c.args in
     let top' = c.top-x in
-    rw c.to.ensures (ret_tells a.map.now a.regs.now c.requires.0 a.mem.now a.self a.w c.requires.2 c.requires.3
+    rw c.to.ensures (ret_tells a.map.now a.regs.now (search (rules, c.well_formed)) a.mem.now a.self a.w c.requires.0 c.requires.1
     c.plus.result top'.result (omega (arith, c.if-x-eq1.false)) c.plus.ensures
     (top'.ensures c.if-x-ge-NONE.false))

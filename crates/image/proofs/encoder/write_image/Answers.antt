@@ -39,25 +39,10 @@ covered old st {one} {two} {three} {four} {five} long regs tlb p q r s t =
     ∙ sets_all (c ++ d ++ f) old (long ∙ sym (length-append (c ++ d) f ∙ omega arith))
     ∙ append_assoc c d f
 
-pub put_words-requires : goal.put_words-requires
-put_words-requires c =
-    let regs : length c.args.state.regs ≡ 13 = search rules in
-    omega arith
-
-pub slice_bounds-put_entries-end : goal.slice_bounds-put_entries-end
-slice_bounds-put_entries-end c =
-    let tlb : length c.args.state.tlb ≡ 8 = search rules in
-    sym tlb
-
-pub put_entries-requires : goal.put_entries-requires
-put_entries-requires c =
-    let tlb : length c.args.state.tlb ≡ 8 = search rules in
-    omega (arith, c.put_between.auto.image, c.put_words.auto.bytes)
-
 pub returns : goal.returns
 unfolding image_of
 returns c =
     let regs : length c.args.state.regs ≡ 13 = search rules in
     let tlb : length c.args.state.tlb ≡ 8 = search rules in
-    covered c.args.image.now c.args.state c.requires regs tlb
-    c.put_words.ensures c.put_between.ensures c.put_entries.ensures c.put_timer.ensures c.put_timer-2.ensures
+    covered c.args.image.now c.args.state c.told-image regs tlb
+    c.put_elements.ensures c.put_between.ensures c.put_elements-2.ensures c.put_timer.ensures c.put_timer-2.ensures

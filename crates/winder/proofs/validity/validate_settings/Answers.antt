@@ -1,12 +1,17 @@
 -- `winder::validity::validate_settings` meets its contract.
-use mathlib.Core.Path.{◌∙◌}
+use mathlib.Core.Path.{sym, ◌∙◌}
+use Rattle.winder.specs.Bounds.{settings_good_lem}
 use Rattle.winder.specs.Call.{settings_valid}
 use Rattle.winder.proofs.validity.validate_settings.Goals as goal
 
-pub returns-then-good_settings : goal.returns-then-good_settings
+pub invariant_of-result : goal.invariant_of-result
 unfolding settings_valid
-returns-then-good_settings c = rw (← c.good_settings.ensures, c.if-good_settings.true)
+invariant_of-result c =
+    let good = rw c.good_settings.ensures at (sym c.good_if.ensures ∙ c.in_ok-good_if.was) in
+    record { in_bounds = (settings_good_lem c.args.settings c.args.places good).0 }
 
-pub returns-else-good_settings : goal.returns-else-good_settings
+pub returns-clause-room : goal.returns-clause-room
 unfolding settings_valid
-returns-else-good_settings c = c.refused.ensures ∙ rw (← c.good_settings.ensures, c.if-good_settings.false)
+returns-clause-room c =
+    let good = rw c.good_settings.ensures at (sym c.good_if.ensures ∙ c.in_ok-good_if.was) in
+    (settings_good_lem c.args.settings c.args.places good).1
