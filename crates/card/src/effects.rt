@@ -34,7 +34,7 @@ impl Progress {
         self.filled += REPORT;
     }
 
-    // What a command does, its report behind those that are filled.
+    // What a command does, its report behind those that are filled. A match over the commands: each has operands of its own.
     fn execute(&mut self, command: Command, memory: &mut Memory, report: &mut [u8])
         requires { self.old.filled + report_size * is_run command ≤ length report.old }
         ensures answer { self.new ≡ record { state = (def.effect_of command self.old.state memory.old).state; filled = self.old.filled + report_size * is_run command } }

@@ -1,5 +1,6 @@
-// The numbers of the instructions: the first byte's upper five bits, but that LD Rd,FLAG, POP and RETI, which share theirs with ST, PUSH and
-// RET, have numbers that are free. They are numbers and no enum, since the decoding and the body of a step go by ranges of them, as ADD to MOD.
+// The numbers of the instructions: the first byte's upper five bits, but that LD Rd,FLAG, POP and RETI, which share theirs with ST, PUSH
+// and RET, have numbers that are free. They are numbers and no enum, since the decoding and the body of a step go by ranges of them, as ADD
+// to MOD: document 01 names that form.
 pub const NO: u8 = 0;
 
 pub const LD: u8 = 1;

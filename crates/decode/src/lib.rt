@@ -96,8 +96,8 @@ pub struct Instruction {
 }
 
 // What the first word of a defined instruction says: its number, its mode (8 where it has no operand), its two fields, whether a second word
-// follows, its states, its privilege, its data access and how it goes on. The mode is the number that the first byte has:
-// an enum of it would be `Operand` without what each case holds.
+// follows, its states, its privilege, its data access and how it goes on. The mode is the number that the first byte has,
+// as document 01 lists them: an enum of it would be `Operand` without what each case holds.
 #[derive(Clone, Copy)]
 pub struct Shape {
     pub code: u8,

@@ -5,7 +5,8 @@ ghost use Rattle.decode.specs.Entry.{table_of};
 // An entry for each first byte.
 pub type Table = [u16; 256];
 
-// The entry of a byte that is no instruction: mode 15, which is none. An entry has 16 bits, and no place for an `Option`.
+// The entry of a byte that is no instruction: mode 15, which is none. An entry of the constant table, which document 01 names, has
+// 16 bits, and no place for an `Option`.
 pub const UNKNOWN: u16 = 0x01e0;
 
 // From the lowest bit of an entry up: the instruction's number (5 bits), the mode (4), the states (7).

@@ -1,7 +1,8 @@
-// The instruction of a first word, by its first byte, which document 01 lists: 8 times the code, plus the mode. Code and mode stand as constants in each
-// arm, so that the compiled loop makes one jump by the byte into code for that instruction in that mode. The arms are a table in six functions, in two
-// chains: the compiler would not put a longer function into the loop. A step takes 50
-// machine instructions so, and 75 by a match over codes. The byte is handed on beside the word that it is of, as the loop has it.
+// The instruction of a first word, by its first byte, which document 01 lists: 8 times the code, plus the mode. Code and mode stand as
+// constants in each arm, so that the compiled loop makes one jump by the byte into code for that instruction in that mode. The arms are a
+// table in six functions, in two chains: the compiler would not put a longer function into the loop. A step takes 50 machine instructions
+// so, and 75 by a match over codes. The byte is handed on beside the word that it is of, as the loop has it. An even PC, and registers, map
+// and memory one by one, are asked for what `hot` says of them.
 #![tactic(auto)]
 
 ghost use Rattle.std.specs.Prelude.{◌≡◌, ◌%◌, ◌*◌, ◌+◌, ◌/◌, ◌<◌};

@@ -46,7 +46,7 @@ impl Hot {
         self.operate(regs, w, code, mode, x)
     }
 
-    // LD and ADD to SHRL, by code and mode, with their operand.
+    // LD and ADD to SHRL, by code and mode, with their operand. `plan::result` is the plain one: here states and flags go along in the loop.
     pub(crate) fn operate(self, regs: &mut [u16; 16], w: u32, code: u8, mode: u32, x: Source) -> Hot
         requires { (x.cost ≡ add_cost (mode_of w)) × (w / 2048 ≡ code) × (mode_of w ≡ mode) }
         ensures { def.Operates regs.old self w x regs.new result }

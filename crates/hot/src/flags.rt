@@ -23,7 +23,7 @@ impl Hot {
         self.result == 0
     }
 
-    // V, C, S and Z in the places of FLAG.
+    // V, C, S and Z in the places of FLAG, from what the loop holds of them.
     pub(crate) fn flags(self) -> u8
         ensures { (result ≡ flag_bits self.v self.c (def.s_of self) (def.z_of self)) × (result < 16) }
     {
@@ -45,7 +45,8 @@ fn digit(x: bool) -> u8
     u8::from(x)
 }
 
-// The condition of each number as a word, Dh being none: bit 8V + 4C + 2S + Z tells whether it holds with these flags.
+// The condition of each number as a word, Dh being none: bit 8V + 4C + 2S + Z tells whether it holds with these flags. One shift
+// in the loop, in place of a match.
 fn holds(n: u32) -> u16
     requires { n < 16 }
     ensures { HoldsBy n result }

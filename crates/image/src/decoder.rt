@@ -13,7 +13,8 @@ use machine::{Condition, Ports, State};
 use status::Flags;
 use timer::{Timer, Timers};
 
-// What the byte of a condition is read as: beyond 2 too, which is the image's and not the condition's.
+// What the byte of a condition is read as: beyond 2 too, which is the image's and not the condition's. A function: neither `From` nor
+// `Condition` is of this crate.
 #[tactic(auto, unfolding(crate::specs::Decode::condition_from))]
 fn condition_from(n: u8) -> Condition
     ensures { result ≡ def.condition_from n }
@@ -25,6 +26,7 @@ fn condition_from(n: u8) -> Condition
     }
 }
 
+// By its offset, as its definition goes.
 fn timer_from(image: &[u8], at: usize) -> Timer
     requires { at + timer_size ≤ length image.now }
     ensures { result ≡ def.timer_from image.now at }

@@ -33,6 +33,7 @@ fn put_between(image: &mut Image, state: State)
     put_bytes(image, CAUSE, &[state.fault.cause, state.fault.missed]);
 }
 
+// By its offset, as its definition goes.
 fn put_timer(image: &mut [u8], at: usize, timer: Timer)
     requires { at + timer_size ≤ length image.old }
     ensures { image.new ≡ sets image.old at (def.timer_bytes timer) }

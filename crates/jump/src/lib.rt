@@ -1,4 +1,5 @@
-// Jump conditions. They are numbers and no enum, since a jump's field Rd is one, and 8 to 11 are the opposites of 0 to 3.
+// Jump conditions. They are numbers and no enum, since a jump's field Rd is one, and 8 to 11 are the opposites of 0 to 3: document 01
+// names a match with ranges over them.
 #![tactic(auto)]
 
 ghost use Rattle.std.specs.Prelude.{Bool, ◌≡◌, ◌<◌, ◌≤◌, Some};

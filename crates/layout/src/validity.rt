@@ -64,7 +64,7 @@ fn count_good(count: u16, period: u16) -> bool
     }
 }
 
-// The timer at an offset.
+// The timer at an offset, as its definition goes.
 #[tactic(auto, unfolding(crate::specs::Valid::timer_good))]
 fn timer_good(image: &[u8], at: usize) -> bool
     requires { at + timer_size ≤ length image.now }

@@ -57,8 +57,8 @@ fn put_listing(to: &mut Writer<'_>, validity: Validity, report: &[u8])
     }
 }
 
-// The listing of a card by what its call's tests say and by the part of the report that it filled, written to the front of `text` and cut where that ends.
-// Answers how many bytes were written.
+// The listing of a card by what its call's tests say and by the part of the report that it filled, written to the front of `text` and cut
+// where that ends. Answers how many bytes were written, which callers that lend a buffer go by.
 #[tactic(auto, using(crate::proofs::Whole::sets_over))]
 pub fn write_listing(validity: Validity, report: &[u8], text: &mut [u8]) -> usize
     ensures count { result ≡ min (length (def.listing_of validity report.now)) (length text.old) }

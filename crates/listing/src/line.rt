@@ -6,6 +6,7 @@ use endian::word_from;
 use report::{ENDING, FLAG, NUMBER, PC, REPORT, STATES, STEPS};
 use text::Writer;
 
+// By the number that a report has for it, as C has it.
 #[tactic(auto, unfolding(crate::specs::Listing::ending_text))]
 fn put_ending(to: &mut Writer<'_>, ending: u8)
     ensures { Wrote to.old to.new (def.ending_text ending) }

@@ -36,7 +36,7 @@ impl State {
         State { ssp, ..self }.load_flag(w)
     }
 
-    // The state after an instruction but for PC.
+    // The state after an instruction but for PC, by a match with ranges over the numbers, which document 01 names.
     #[tactic(auto, unfolding(crate::specs::Execute::body_of))]
     fn body(self, op: Operation) -> State
         ensures { result ≡ def.body_of self op }

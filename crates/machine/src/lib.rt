@@ -86,7 +86,7 @@ pub struct Stepped {
     pub event: Event,
 }
 
-// How a run ended.
+// How a run ended. An entry has the same three as in `Event`: each enum is taken apart by itself.
 #[derive(Clone, Copy)]
 pub enum Ending {
     Spent,

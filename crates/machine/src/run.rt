@@ -44,7 +44,8 @@ impl State {
         }
     }
 
-    // A run of at most `allowance` steps: the plain loop, to be read. `runner::run` has the same equation, and is fast.
+    // A run of at most `allowance` steps: the plain loop with its counted steps, which document 01 names, to be read. `runner::run` has
+    // the same equation, and is fast.
     pub fn run(self, mem: &mut Memory, allowance: u16) -> Finished
         ensures answer { result ≡ def.finished (def.run_of allowance self mem.old) }
         ensures memory { mem.new ≡ (def.run_of allowance self mem.old).memory }

@@ -56,7 +56,7 @@ fn operand_place(map: &[u16; 256], right: Right, width: Width, a: u32) -> usize
     place(map, right, a as u16)
 }
 
-// What an address holds.
+// What an address holds. Of the fast tier, as `word_at` is: by the map, and with no mark to set.
 pub fn read(map: &[u16; 256], mem: &Memory, width: Width, a: u32) -> u32
     ensures { result < 65536 → Reads map.now mem.now right.Read width a result }
 {

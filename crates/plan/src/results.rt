@@ -5,7 +5,7 @@ ghost use Rattle.plan.specs.Result as def;
 use alu::Alu;
 use decode::code::*;
 
-// The result and the flags of an instruction from ADD to SHRL but CMP.
+// The result and the flags of an instruction from ADD to SHRL but CMP, by its number, as document 01 names it.
 #[tactic(auto, unfolding(crate::specs::Result::alu_of))]
 pub fn result(code: u8, a: u16, b: u16) -> Alu
     ensures { result ≡ def.alu_of code a b }

@@ -24,7 +24,7 @@ pub const FLAG: usize = 10;
 
 pub const REPORT: usize = 12;
 
-// The number that a report has for an ending, which no other crate asks for.
+// The number that a report has for an ending. A function: neither `From` nor `Ending` is of this crate, and no other asks for it.
 fn ending_number(ending: Ending) -> u8
     ensures { result ≡ ending_number ending }
 {
@@ -46,7 +46,8 @@ fn shown(ending: Ending, pc: u16, flag: u16) -> (u8, u16, u16)
     }
 }
 
-// A report written to the front of `report`, the bytes behind it kept. An array of 12 bytes would ask for no more than these.
+// A report written to the front of `report`, the bytes behind it kept. At least 12: an array of 12 would ask for
+// exactly so many. For any words, too, where `write_run` takes those of a run.
 pub fn write_report(report: &mut [u8], ending: Ending, pc: u16, flag: u16, steps: u16, states: u32)
     requires { 12 ≤ length report.old }
     ensures { report.new ≡ def.report_of ending pc flag steps states ++ drop 12 report.old }

@@ -24,7 +24,7 @@ fn spread(state: State) -> [u16; 16]
     ]
 }
 
-// The state put together.
+// The state put together, the registers copied as in `spread`.
 fn gather(mut base: State, rs: [u16; 16], h: Hot) -> State
     ensures { result ≡ hot_state base rs h }
 {

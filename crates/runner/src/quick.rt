@@ -8,7 +8,8 @@ use hot::Hot;
 use memory::Memory;
 use pages::{NONE, fetch};
 
-// Plain instructions, at most `allowance`, up to one that is not, PC being even. `top` is E, P and I in their places in FLAG.
+// Plain instructions, at most `allowance`, up to one that is not, PC being even, for what `hot` says of it. `top` is E, P and I in their
+// places in FLAG.
 pub fn quick(
     first: Hot,
     regs: &mut [u16; 16],

@@ -25,6 +25,7 @@ pub fn run(
     let mut states: u32 = 0;
     // What plain instructions may take: nothing before the first step of a run that ends at an entry, since many a one has no other step.
     let mut spare = if through { allowance } else { 0 };
+    // A turn takes a number of steps that is not known before.
     loop {
         let part = ahead(state, mem, spare, maps.as_deref_mut());
         steps += part.steps;

@@ -53,6 +53,7 @@ fn operand(value: u32, next: u16, cost: u32) -> Source
 }
 
 // The operand of LD and of ADD to SHRL in this mode, PC being even. The mode is a number of its own so that a caller can give it as a constant.
+// Registers, map and memory are parameters one by one, for what `hot` says of it.
 pub fn source_of(
     regs: &[u16; 16],
     map: &[u16; 256],

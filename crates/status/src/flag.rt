@@ -8,7 +8,7 @@ use decode::Privilege;
 use jump::Arithmetic;
 
 impl Flags {
-    // FLAG as a word. A method, and `from_word` beside it: `From` of a number says less of what it is.
+    // FLAG as a word. A method, and `from_word` beside it, as the documents name them: `From` of a number is no plainer.
     #[tactic(auto, unfolding(crate::specs::Flag::flag_word))]
     pub fn word(self) -> u16
         ensures { result ≡ def.word_of self }

@@ -7,7 +7,8 @@ ghost use Rattle.command.specs.Card as def;
 use command::{Command, Commands};
 use refusal::{Cause, Validity};
 
-// The tests of a card by itself, and the number of its runs: a refused card has both, so this is no `Result<usize, Refusal>`.
+// The tests of a card by itself, and the number of its runs: a refused card has both, so this is no `Result<usize, Refusal>`. Named for what
+// it counts, as `CallValidity` of card is.
 #[derive(Clone, Copy)]
 pub struct CardValidity {
     pub validity: Validity,
