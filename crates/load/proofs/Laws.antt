@@ -1,19 +1,9 @@
 -- Laws of loads: those that a window which moves on by one record uses.
 -- Assumes nothing.
-use Rattle.std.specs.Prelude.{Bool, cond, false, true, refl, ◌==◌, List, [], ◌++◌, ◌∷◌, ◌≡◌, max, suc, zero, ℕ, ◌+◌, ◌<◌, ◌≤◌, eqb, drop, get_or, length, take}
-use Rattle.std.proofs.Common.{add-one, count_by, arith, length-drop, length-take, drop-cons, get_or-drop, take-suc}
-use Rattle.std.proofs.lemmas.List.Recursion.{is_count_by}
+use Rattle.std.specs.Prelude.{Bool, false, true, List, [], ◌++◌, ◌∷◌, ◌≡◌, max, suc, zero, ℕ, ◌+◌, ◌<◌, ◌≤◌, eqb, drop, get_or, length, take}
+use Rattle.std.proofs.Common.{add-one, arith, length-drop, length-take, drop-cons, get_or-drop, take-suc}
 use mir.Val.{bool_byte}
 use Rattle.load.specs.Load.{busiest_of, largest_to, last_start, load_at, load_of, on_of}
-
--- records on, counted
-pub load_counts : (ticks : List ℕ) → load_of ticks ≡ count_by (λ (t : ℕ). t == 1) ticks
-unfolding load_of
-load_counts = is_count_by load_of _ refl (λ t ts. by (eqb t 1) (load_of ts))
-  where
-    by : (b : Bool) (n : ℕ) → bool_byte b + n ≡ cond b (1 + n) n
-    by true n = refl
-    by false n = omega arith
 
 -- ---- a record more
 
@@ -22,6 +12,10 @@ load_more : (ticks : List ℕ) (tick : ℕ) → load_of (ticks ++ (tick ∷ []))
 unfolding load_of
 load_more [] tick = omega arith
 load_more (t ∷ ts) tick = omega (arith, load_more ts tick)
+
+-- of the first ones
+pub load_first : (records : List ℕ) (i : ℕ) → i < length records → load_of (take (i + 1) records) ≡ load_of (take i records) + on_of (get_or records i 0)
+load_first records i h = rw (add-one, take-suc records i 0 h, load_more)
 
 -- a window moved on by one record: one enters, one leaves
 pub load_moves :

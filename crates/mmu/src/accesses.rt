@@ -24,7 +24,9 @@ fn translate(tlb: &mut [u32; 8], right: Right, a: u16) -> Result<u16, Fault>
     Ok((entry % 256) as u16 * 256 + a % 256)
 }
 
-// An access. `on` says whether the MMU translates: the state tells it each time, and the TLB alone goes in and comes out.
+// An access. `on` says whether the MMU translates: the state tells it each time, and the TLB alone goes in and comes out. A part of its callers in the
+// compiled library: as a call, with the TLB copied in and out, it makes a RETI half as dear again.
+#[inline(always)]
 #[tactic(auto, unfolding(crate::specs::Access::access_of, crate::specs::Access::aligned_access))]
 pub fn try_access(width: Width, on: bool, mut tlb: [u32; 8], right: Right, a: u16) -> Accessed
     ensures { result ≡ def.access_of width on tlb right a }
