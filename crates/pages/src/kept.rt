@@ -11,7 +11,7 @@ pub struct Maps {
     pub plain: [u16; 256],
     pub translated: [u16; 256],
     pub origin: [u32; 8],
-    ghost kept: { Kept origin plain translated },
+    pub ghost kept: { Kept origin plain translated },
 }
 
 impl Maps {
