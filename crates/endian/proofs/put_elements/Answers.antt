@@ -9,7 +9,7 @@ pub loop-k-preserved : goal.loop-k-preserved
 loop-k-preserved g c =
     let element = c.index-elements-k in
     stored_more g.met.P.Packed.laid c.loop-k.invariant element.result c.loop-k-test.true
-    (rw element.is at c.put_element.ensures) (rw c.SIZE.ensures)
+    (rw element.is at c.put_element.ensures) (cc)
 
 pub returns : goal.returns
 returns g c = stored_all g.met.P.Packed.laid c.loop-k.invariant c.loop-k-test.false

@@ -7,7 +7,8 @@ use Rattle.command.proofs.commands.CommandsIterator.next.Goals as goal
 
 pub invariant_of-self-clause-inside : goal.invariant_of-self-clause-inside
 invariant_of-self-clause-inside c =
-    (at_next _ _ c.parse.ensures (c.in-Ok-Some.is ∙ ap Ok c.in-Ok-Some.field-0-is)).within c.args.self.now.inside
+    let turn = at_next _ _ c.parse.ensures (c.in-Ok-Some.is ∙ ap Ok c.in-Ok-Some.field-0-is) in
+    omega (arith, turn.forward, turn.within c.args.self.now.inside)
 
 pub returns-in-Ok-None-clause-steps : goal.returns-in-Ok-None-clause-steps
 returns-in-Ok-None-clause-steps c = (refl, at_end _ _ c.parse.ensures (c.in-Ok-None.is ∙ ap Ok c.in-Ok-None.field-0-is))
